@@ -1,0 +1,110 @@
+-- The definitions case by case, in the words of the code.
+use mathlib.Core.Path.{_≡_, refl, sym, ap, ap₂, _∙_}
+use mathlib.Core.Bool.{Bool, true, false, _&&_}
+use mathlib.Core.List.{List}
+use Prim.Native.Nat.{ℕ, zero, suc, _+_, _<_, _≤_, _-_}
+use native.Mathlib.Omega.{arith}
+use borrow.Author.Tests.{lt-ltb, le-leb, lt-leb}
+use lib.Dec.{eqb, leb}
+use lib.ListN.{length}
+use lib.Ieee.{Float, binary64, add, mul, eq}
+use lib.Ieee.Scale.{finite}
+use Rattle.binary64.specs.Doubles.{plusZero, magnitude, larger, nonnegative}
+use Rattle.matrix.specs.Matrix.{Matrix, cell, at, tabulate, sumTo, allTo, all}
+use Rattle.matrix.specs.Arrays.{lead, Holds}
+use Rattle.refusal.specs.Result.{Result, refused, done, andThen, unless}
+use Rattle.matrix.specs.Exponential.{Scheme, Exponential, rowSum, normTo, countOf, taylor, allFinite, exponential}
+use Rattle.linear_pk.specs.LinearPk.{stateCount, sound, propagator, amountTo, applied, over, interval, amounts, advance, concentration, concentrations, bind, passes, valuesPass, kernelOf, ratesFinite, new, noBound, padded, states, mostCompartments}
+use Rattle.linear_pk.specs.declared.kernel.LinearPk.{LinearPk}
+use Rattle.linear_pk.specs.declared.kernel.Absorption.{Absorption}
+use Rattle.matrix.proofs.Filled.{tabulate-cong}
+use Rattle.matrix.proofs.Rows.{sum-cong, all-cong, lead-at}
+
+-- ---- the propagator applied
+pub applied-at :
+    (n : ℕ) (p : Matrix) (x r : List Float) (d : Float) {b c : Bool} {y : List Float}
+    → b ≡ allTo (λ j. finite (mul binary64 (cell r j) d)) n → y ≡ tabulate n (λ i. amountTo p n x r d i n) → c ≡ all nonnegative y
+    → applied n (lead (n + n) p) x r d ≡ andThen (unless b 22 y) (λ _. unless c 22 y)
+unfolding applied amountTo
+applied-at n p x r d {b} {c} {y} f e g =
+    let q : tabulate n (λ i. amountTo (lead (n + n) p) n x r d i n) ≡ y =
+    tabulate-cong n (λ i l. sum-cong n (λ j k. ap₂ (λ (u v : Float). add binary64 (mul binary64 u (cell x j)) (mul binary64 v (mul binary64 (cell r j) d))) (lead-at (n + n) p i j (omega arith) (omega arith)) (lead-at (n + n) p i (j + n) (omega arith) (omega arith))))
+    ∙ sym e in
+    rw (q, ← f) (on b)
+  where
+    on : (b : Bool) → andThen (unless b 22 y) (λ y. unless (all nonnegative y) 22 y) ≡ andThen (unless b 22 y) (λ _. unless c 22 y)
+    on true = rw g
+    on false = refl
+
+-- ---- an interval, and `advance`
+module _ (s : Scheme) (k : LinearPk) (x r : List Float) (d : Float) where
+  pub interval-none : eq d plusZero ≡ true → interval s k x r d ≡ done x
+  unfolding interval
+  interval-none h = rw h
+
+  pub interval-refused : {n : ℕ} → eq d plusZero ≡ false → propagator s k d ≡ refused n → interval s k x r d ≡ refused n
+  unfolding interval
+  interval-refused h e = rw (h, e)
+
+  pub interval-applied : {e : Exponential} → eq d plusZero ≡ false → propagator s k d ≡ done e → interval s k x r d ≡ applied (stateCount k) (e .matrix) x r d
+  unfolding interval
+  interval-applied h e = rw (h, e)
+
+  pub advance-unsound : (room : ℕ) {n : ℕ} → sound k ≡ refused n → advance s k x r d room ≡ refused n
+  unfolding advance
+  advance-unsound room h = rw h
+
+  pub advance-sound :
+      (room : ℕ) {b : Bool} {j : LinearPk} → sound k ≡ done j → b ≡ amounts (stateCount k) x && (amounts (stateCount k) r && nonnegative d)
+      → advance s k x r d room ≡ andThen (unless b 3 x) (λ _. andThen (unless (leb (stateCount k) room) 4 x) (λ _. interval s k x r d))
+  unfolding advance
+  advance-sound room h e = rw (h, ← e)
+
+-- ---- `concentrations` and `bind`
+module _ (k : LinearPk) (x : List Float) where
+  pub concentrations-unsound : (room : ℕ) {n : ℕ} → sound k ≡ refused n → concentrations k x room ≡ refused n
+  unfolding concentrations
+  concentrations-unsound room h = rw h
+
+  pub concentrations-sound :
+      (room : ℕ) {b c : Bool} {y : List Float} {j : LinearPk} → sound k ≡ done j → b ≡ amounts (stateCount k) x
+      → y ≡ tabulate (k .compartments) (concentration k x) → c ≡ all finite y
+      → concentrations k x room ≡ andThen (unless b 3 x) (λ _. andThen (unless (leb (k .compartments) room) 4 y) (λ _. unless c 23 y))
+  unfolding concentrations
+  concentrations-sound room {b} {c} {y} h e f g = rw (h, ← e, ← f) (on b (leb (k .compartments) room))
+    where
+      on : (b l : Bool) → andThen (unless b 3 x) (λ _. andThen (unless l 4 y) (λ y. unless (all finite y) 23 y)) ≡ andThen (unless b 3 x) (λ _. andThen (unless l 4 y) (λ _. unless c 23 y))
+      on false l = refl
+      on true false = refl
+      on true true = rw g
+
+  pub bind-unsound : {n : ℕ} → sound k ≡ refused n → bind k x ≡ refused n
+  unfolding bind
+  bind-unsound h = rw h
+
+  pub bind-sound : {b : Bool} → sound k ≡ done k → b ≡ amounts (stateCount k) x → bind k x ≡ unless b 3 (record { kernel = k; initial = padded states x })
+  unfolding bind
+  bind-sound h e = rw (h, ← e)
+
+-- ---- `new`
+module _ (cl : Float) (vs qs : List Float) (a : Absorption) where
+  pub new-refused : passes cl vs qs a ≡ false → new cl vs qs a ≡ refused 1
+  unfolding new
+  new-refused h = rw h
+
+  pub new-made : {b : Bool} {k : LinearPk} → passes cl vs qs a ≡ true → k ≡ kernelOf cl vs qs a → b ≡ ratesFinite k → new cl vs qs a ≡ unless b 2 k
+  unfolding new
+  new-made h e f = rw (h, ← e, ← f)
+
+  pub passes-none : length vs ≡ 0 → passes cl vs qs a ≡ false
+  unfolding passes
+  passes-none h = rw h
+
+  pub passes-many : mostCompartments < length vs → passes cl vs qs a ≡ false
+  unfolding passes
+  passes-many h = rw (lt-ltb 0 (length vs) (omega arith), lt-leb (length vs) mostCompartments h)
+
+  pub passes-by :
+      {b : Bool} → (length vs ≡ 0 → ⊥) → length vs ≤ mostCompartments → b ≡ eqb (length qs) (length vs - 1) && valuesPass cl vs qs a → passes cl vs qs a ≡ b
+  unfolding passes
+  passes-by n h e = rw (lt-ltb 0 (length vs) (omega arith), le-leb (length vs) mostCompartments h) (sym e)

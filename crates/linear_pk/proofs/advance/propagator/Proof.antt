@@ -1,0 +1,16 @@
+-- `linear_pk::advance::propagator` meets its contract.
+use mathlib.Core.Path.{_≡_, refl}
+use borrow.Author.Needs.{needs}
+use Rattle.linear_pk.specs.LinearPk.{propagator}
+use Rattle.linear_pk.proofs.advance.propagator.Statement.{statement}
+use Rattle.linear_pk.proofs.advance.propagator.Tie as tie
+
+returns : tie.Need-returns
+unfolding propagator
+returns c = rw (← c .before .before .before .state-count .ensures .0, ← c .before .before .block .ensures .part) (c .exponential .ensures)
+
+pub propagator-spec : {M : Type 1} → statement M
+propagator-spec =
+    tie.close
+    (tie.spec
+    (λ c κs. search needs) (λ c κs. search needs) (λ c. search needs) (λ c κs. search needs) returns)

@@ -1,0 +1,16 @@
+-- `linear_pk::kernel::kernel_of` meets its contract.
+use mathlib.Core.Path.{_≡_, refl}
+use borrow.Author.Needs.{needs}
+use Rattle.linear_pk.specs.LinearPk.{kernelOf}
+use Rattle.linear_pk.proofs.kernel.kernel_of.Statement.{statement}
+use Rattle.linear_pk.proofs.kernel.kernel_of.Tie as tie
+
+returns : tie.Need-returns
+unfolding kernelOf
+returns c = rw (c .before .before .rates .ensures, c .before .before .before .central .ensures .0, c .before .padded-volumes .ensures, c .has-depot .ensures)
+
+pub kernel-of-spec : {M : Type 1} → statement M
+kernel-of-spec =
+    tie.close
+    (tie.spec
+    (λ c κs. search needs) (λ c. search needs) (λ c κs. search needs) (λ c κs. search needs) (λ c κs. search needs) returns)

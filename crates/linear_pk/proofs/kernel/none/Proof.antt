@@ -1,0 +1,15 @@
+-- `linear_pk::kernel::none` meets its contract.
+use mathlib.Core.Path.{_≡_, refl}
+use lib.Ieee.{ofBits}
+use Rattle.linear_pk.proofs.kernel.none.Statement.{statement}
+use Rattle.linear_pk.proofs.kernel.none.Tie as tie
+
+returns : tie.Need-returns
+unfolding ofBits
+returns c = refl
+
+pub none-spec : {M : Type 1} → statement M
+none-spec =
+    tie.close
+    (tie.spec
+    returns)

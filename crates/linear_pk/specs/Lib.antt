@@ -1,0 +1,2 @@
+pub mod LinearPk
+pub mod Tests

@@ -1,0 +1,4 @@
+pub mod Matrix
+pub mod Exponential
+pub mod Answers
+pub mod Arrays

@@ -1,0 +1,27 @@
+-- 01, "Who brought it on": the number of each refusal.
+use Prim.Native.Nat.{ℕ}
+use Rattle.refusal.specs.declared.Refusal.{Refusal}
+use Rattle.refusal.specs.declared.Refusal.the-variants as R
+use Rattle.refusal.specs.declared.Reply.{Reply}
+use Rattle.refusal.specs.declared.Reply.the-variants.{Done, Refused}
+use Rattle.refusal.specs.Result.{Result, refused, done}
+
+abbrev pub refusalNumber : Refusal → ℕ
+refusalNumber R.Parameters = 1
+refusalNumber R.RateNotFinite = 2
+refusalNumber R.Argument = 3
+refusalNumber R.ShortSlice = 4
+refusalNumber R.NormNotFinite = 20
+refusalNumber R.TooManyHalvings = 21
+refusalNumber R.AmountNotFinite = 22
+refusalNumber R.ConcentrationNotFinite = 23
+
+-- 0 stands for done
+abbrev pub replyNumber : Reply → ℕ
+replyNumber Done = 0
+replyNumber (Refused r) = refusalNumber r
+
+-- a reply, beside the value that goes with it
+abbrev pub resultOf : {A : Type 0} → Reply → A → Result A
+resultOf Done a = done a
+resultOf (Refused r) a = refused (refusalNumber r)

@@ -1,0 +1,1 @@
+// Stands in for a module that the analytic path does not use.
