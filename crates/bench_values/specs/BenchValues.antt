@@ -2,11 +2,12 @@
 use mathlib.Core.Path.{_≡_}
 use mathlib.Core.Bool.{true, false}
 use mathlib.Core.List.{List, [], _∷_}
+use mathlib.Core.Option.{some, none}
 use Prim.Native.Nat.{ℕ, _^_, _+_}
 use lib.IntN.{pos, negsuc}
 use lib.ListN.{length}
 use lib.Ieee.{Float, fin}
-use Rattle.binary64.specs.Doubles.{plusZero, one, half}
+use Rattle.binary64.specs.Doubles.{plusZero, minusZero, one, half}
 use Rattle.refusal.specs.Result.{Result, refused, done, andThen}
 use Rattle.matrix.specs.Matrix.{Matrix, table}
 use Rattle.matrix.specs.Exponential.{scheme}
@@ -14,6 +15,12 @@ use Rattle.linear_pk.specs.LinearPk.{new, stateCount, entry, propagator, advanc
 use Rattle.linear_pk.specs.declared.kernel.LinearPk.{LinearPk}
 use Rattle.linear_pk.specs.declared.kernel.Absorption.{Absorption}
 use Rattle.linear_pk.specs.declared.kernel.Absorption.the-variants.{Absent, FirstOrder}
+use Rattle.protocol.specs.Prepare.{prepare}
+use Rattle.protocol.specs.Execute.{Outcome, go, stop, runOf}
+use Rattle.protocol.specs.declared.Event.{Event}
+use Rattle.protocol.specs.declared.Event.the-variants.{Bolus, Reset}
+use Rattle.protocol.specs.declared.Window.{Window}
+use Rattle.simulation.specs.KernelRun.{propagatorOf}
 
 -- 2, 3, 4, 8
 abbrev pub two : Float
@@ -44,6 +51,19 @@ after duration = andThen (single plusZero) (λ k. advance scheme k (three ∷ []
 abbrev pub halvings : Float → Result ℕ
 halvings clearance = andThen (single clearance) (λ k. andThen (propagator scheme k one) (λ e. done (e .halved)))
 
+-- from 0, with tolerances 1 and budgets 100
+abbrev pub window : Float → Window
+window end = record { start = plusZero; end = end; rtol = one; atol = one; propagations = 100; events = 100; outputs = 100 }
+
+-- a bolus of 1 at 8
+abbrev pub late : List Event
+late = Bolus eight 0 one ∷ []
+
+-- the amounts at the end of a run
+abbrev pub ending : Outcome → Result (List Float)
+ending (go s) = done (s .amounts)
+ending (stop c t s) = refused c
+
 pub record BenchValues : Type 0 where
   -- CL 2, V 4 and 8, q 1, k 0.5: rows (−0.5, 0, 0), (0.5, −0.75, 0.125), (0, 0.25, −0.125)
   pub p1 :
@@ -61,3 +81,8 @@ pub record BenchValues : Type 0 where
   pub p8 : halvings (fin false 1 (pos 59)) ≡ done 60
   -- CL 2^59 + 128: 21
   pub p8-more : halvings (fin false (2 ^ 52 + 1) (pos 7)) ≡ refused 21
+  -- a plain run over 0 to 8 takes a bolus at 8
+  pub p7-prepared : prepare 1 (window eight) [] late ≡ none
+  pub p7-run : andThen (single plusZero) (λ k. ending (runOf (propagatorOf k) 1 (window eight) [] late (three ∷ []))) ≡ done (four ∷ [])
+  -- resets at −0 and +0, order 1 both: 12
+  pub p11 : prepare 1 (window one) [] (Reset minusZero 0 one 1 false ∷ Reset plusZero 0 one 1 false ∷ []) ≡ some 12

@@ -1,8 +1,17 @@
 -- The laws that the functions' proofs rest on.
 pub mod Tests
+pub mod Folds
 pub mod Units
 pub mod Patterns
 pub mod Magnitudes
 pub mod Total
 pub mod Keys
 pub mod Floors
+-- Laws for the crates above, and for sorting in place.
+pub mod Order
+pub mod Differences
+pub mod Signs
+pub mod TotalOrder
+pub mod Sorted
+pub mod Unique
+pub mod Insert

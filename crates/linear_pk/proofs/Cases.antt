@@ -10,11 +10,12 @@ use lib.ListN.{length}
 use lib.Ieee.{Float, binary64, add, mul, eq}
 use lib.Ieee.Scale.{finite}
 use Rattle.binary64.specs.Doubles.{plusZero, magnitude, larger, nonnegative}
-use Rattle.matrix.specs.Matrix.{Matrix, cell, at, tabulate, sumTo, allTo, all}
+use Rattle.matrix.specs.Matrix.{Matrix, cell, at, tabulate, sumTo, allTo}
+use Rattle.binary64.specs.Lists.{all, amountsPass}
 use Rattle.matrix.specs.Arrays.{lead, Holds}
 use Rattle.refusal.specs.Result.{Result, refused, done, andThen, unless}
 use Rattle.matrix.specs.Exponential.{Scheme, Exponential, rowSum, normTo, countOf, taylor, allFinite, exponential}
-use Rattle.linear_pk.specs.LinearPk.{stateCount, sound, propagator, amountTo, applied, over, interval, amounts, advance, concentration, concentrations, bind, passes, valuesPass, kernelOf, ratesFinite, new, noBound, padded, states, mostCompartments}
+use Rattle.linear_pk.specs.LinearPk.{stateCount, sound, propagator, amountTo, applied, over, interval, advance, concentration, concentrations, bind, passes, valuesPass, kernelOf, ratesFinite, new, noBound, padded, states, mostCompartments}
 use Rattle.linear_pk.specs.declared.kernel.LinearPk.{LinearPk}
 use Rattle.linear_pk.specs.declared.kernel.Absorption.{Absorption}
 use Rattle.matrix.proofs.Filled.{tabulate-cong}
@@ -55,7 +56,7 @@ module _ (s : Scheme) (k : LinearPk) (x r : List Float) (d : Float) where
   advance-unsound room h = rw h
 
   pub advance-sound :
-      (room : ℕ) {b : Bool} {j : LinearPk} → sound k ≡ done j → b ≡ amounts (stateCount k) x && (amounts (stateCount k) r && nonnegative d)
+      (room : ℕ) {b : Bool} {j : LinearPk} → sound k ≡ done j → b ≡ amountsPass (stateCount k) x && (amountsPass (stateCount k) r && nonnegative d)
       → advance s k x r d room ≡ andThen (unless b 3 x) (λ _. andThen (unless (leb (stateCount k) room) 4 x) (λ _. interval s k x r d))
   unfolding advance
   advance-sound room h e = rw (h, ← e)
@@ -67,7 +68,7 @@ module _ (k : LinearPk) (x : List Float) where
   concentrations-unsound room h = rw h
 
   pub concentrations-sound :
-      (room : ℕ) {b c : Bool} {y : List Float} {j : LinearPk} → sound k ≡ done j → b ≡ amounts (stateCount k) x
+      (room : ℕ) {b c : Bool} {y : List Float} {j : LinearPk} → sound k ≡ done j → b ≡ amountsPass (stateCount k) x
       → y ≡ tabulate (k .compartments) (concentration k x) → c ≡ all finite y
       → concentrations k x room ≡ andThen (unless b 3 x) (λ _. andThen (unless (leb (k .compartments) room) 4 y) (λ _. unless c 23 y))
   unfolding concentrations
@@ -82,7 +83,7 @@ module _ (k : LinearPk) (x : List Float) where
   unfolding bind
   bind-unsound h = rw h
 
-  pub bind-sound : {b : Bool} → sound k ≡ done k → b ≡ amounts (stateCount k) x → bind k x ≡ unless b 3 (record { kernel = k; initial = padded states x })
+  pub bind-sound : {b : Bool} → sound k ≡ done k → b ≡ amountsPass (stateCount k) x → bind k x ≡ unless b 3 (record { kernel = k; initial = padded states x })
   unfolding bind
   bind-sound h e = rw (h, ← e)
 

@@ -9,8 +9,9 @@ use lib.Dec.{ltb, leb, eqb}
 use lib.ListN.{length}
 use lib.Ieee.{Float}
 use Rattle.linear_pk.specs.declared.kernel.LinearPk.{LinearPk}
+use Rattle.binary64.specs.Lists.{amountsPass}
 use Rattle.refusal.specs.Result.{Result, refused, done, andThen, unless}
-use Rattle.linear_pk.specs.LinearPk.{counted, stateCount, place, mostCompartments, amounts, sound, ratesFinite}
+use Rattle.linear_pk.specs.LinearPk.{counted, stateCount, place, mostCompartments, sound, ratesFinite}
 
 pub and-first : (a b : Bool) → a && b ≡ true → a ≡ true
 and-first true b h = refl
@@ -49,7 +50,7 @@ module _ (k : LinearPk) where
   some-states = decided (counted k) refl .1
 
 -- amounts that pass are n in number
-pub amounts-count : (n : ℕ) (xs : List Float) → amounts n xs ≡ true → length xs ≡ n
+pub amounts-count : (n : ℕ) (xs : List Float) → amountsPass n xs ≡ true → length xs ≡ n
 amounts-count n xs h = eqb-true (length xs) n (and-first (eqb (length xs) n) _ h)
 
 -- a sound kernel has its count

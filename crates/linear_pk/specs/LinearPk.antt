@@ -9,7 +9,8 @@ use lib.ListN.{length, replicate}
 use lib.Ieee.{Float, binary64, add, sub, mul, div, neg, eq}
 use lib.Ieee.Scale.{finite}
 use Rattle.binary64.specs.Doubles.{plusZero, one, nonnegative, positive}
-use Rattle.matrix.specs.Matrix.{Matrix, cell, at, tabulate, table, sumTo, allTo, all}
+use Rattle.matrix.specs.Matrix.{Matrix, cell, at, tabulate, table, sumTo, allTo}
+use Rattle.binary64.specs.Lists.{all, amountsPass}
 use Rattle.refusal.specs.Result.{Result, refused, done, andThen, unless}
 use Rattle.matrix.specs.Exponential.{Scheme, Exponential, exponential}
 use Rattle.linear_pk.specs.declared.kernel.Absorption.{Absorption}
@@ -144,10 +145,6 @@ abbrev pub over : Bool → List Float → Result (List Float) → Result (List F
 over true x r = done x
 over false x r = r
 
--- n values, finite, ≥ 0
-abbrev pub amounts : ℕ → List Float → Bool
-amounts n xs = eqb (length xs) n && all nonnegative xs
-
 unfoldable pub interval : Scheme → LinearPk → List Float → List Float → Float → Result (List Float)
 interval s k x r d = over (eq d plusZero) x (andThen (propagator s k d) (λ e. applied (stateCount k) (e .matrix) x r d))
 
@@ -156,7 +153,7 @@ unfoldable pub advance : Scheme → LinearPk → List Float → List Float → F
 advance s k x r d room =
     let n = stateCount k in
     andThen (sound k)
-    (λ _. andThen (unless (amounts n x && (amounts n r && nonnegative d)) 3 x)
+    (λ _. andThen (unless (amountsPass n x && (amountsPass n r && nonnegative d)) 3 x)
     (λ _. andThen (unless (leb n room) 4 x) (λ _. interval s k x r d)))
 
 -- ---- `concentrations`: amount by volume, the depot skipped
@@ -167,7 +164,7 @@ unfoldable pub concentrations : LinearPk → List Float → ℕ → Result (List
 concentrations k x room =
     let v = k .compartments in
     andThen (sound k)
-    (λ _. andThen (unless (amounts (stateCount k) x) 3 x)
+    (λ _. andThen (unless (amountsPass (stateCount k) x) 3 x)
     (λ _. andThen (unless (leb v room) 4 (tabulate v (concentration k x)))
     (λ y. unless (all finite y) 23 y)))
 
@@ -176,4 +173,4 @@ abbrev pub noBound : BoundLinearPk
 noBound = record { kernel = noKernel; initial = replicate states plusZero }
 
 unfoldable pub bind : LinearPk → List Float → Result BoundLinearPk
-bind k x = andThen (sound k) (λ k. unless (amounts (stateCount k) x) 3 (record { kernel = k; initial = padded states x }))
+bind k x = andThen (sound k) (λ k. unless (amountsPass (stateCount k) x) 3 (record { kernel = k; initial = padded states x }))

@@ -21,7 +21,7 @@ ghost use Rattle.refusal.specs.Numbers.{replyNumber};
 ghost use Rattle.matrix.specs.Answers.{exponentialResult};
 ghost use Rattle.binary64.specs.Doubles.{nonnegative};
 ghost use Rattle.refusal.specs.Result.{number, laid};
-ghost use Rattle.linear_pk.specs.LinearPk.{stateCount, blockCell, propagator as propagatorOf, amountTo, applied, amounts as amountsPass, interval as intervalOf, advance as advanceOf};
+ghost use Rattle.linear_pk.specs.LinearPk.{stateCount, blockCell, propagator as propagatorOf, amountTo, applied, interval as intervalOf, advance as advanceOf};
 
 // The block's cell: rates times duration in the upper left n by n, ones at (i, i + n).
 fn block_cell(kernel: LinearPk, n: usize, duration: f64, i: usize, j: usize) -> f64

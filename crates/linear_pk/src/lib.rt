@@ -10,4 +10,5 @@ pub use bind::BoundLinearPk;
 pub use kernel::Absorption;
 pub use kernel::LinearPk;
 pub use kernel::Made;
+pub use kernel::check;
 pub use kernel::none;

@@ -4,7 +4,7 @@ use mathlib.Core.Bool.{Bool, true, _&&_, cond}
 use mathlib.Core.List.{List, [], _∷_}
 use Prim.Native.Nat.{ℕ, zero, suc}
 use lib.Dec.{eqb}
-use lib.ListN.{getD, length}
+use lib.ListN.{getD}
 use lib.Ieee.{Float, nan, binary64, add, mul, div}
 use Rattle.binary64.specs.Doubles.{minusZero, plusZero, one, half}
 
@@ -43,10 +43,6 @@ sumTo f (suc k) = add binary64 (sumTo f k) (f k)
 unfoldable pub allTo : (ℕ → Bool) → ℕ → Bool
 allTo f zero = true
 allTo f (suc k) = allTo f k && f k
-
--- each element passes
-abbrev pub all : (Float → Bool) → List Float → Bool
-all f xs = allTo (λ i. f (cell xs i)) (length xs)
 
 -- the entry of the product a·b at row i, column j
 unfoldable pub dot : Matrix → Matrix → ℕ → ℕ → ℕ → Float

@@ -9,6 +9,18 @@ pub enum Refusal {
     // A wrong count, or a value that is not finite or below 0.
     Argument,
     ShortSlice,
+    // More events or samples than a run can hold.
+    Limit,
+    // A window's ends or tolerances.
+    Window,
+    // A sample outside the window.
+    Sample,
+    // An event outside what a run takes.
+    Event,
+    // More events than the budget.
+    EventBudget,
+    // More values than the budget.
+    OutputBudget,
     NormNotFinite,
     TooManyHalvings,
     AmountNotFinite,
@@ -31,6 +43,12 @@ pub fn number(reply: Reply) -> u64
             Refusal::RateNotFinite => 2,
             Refusal::Argument => 3,
             Refusal::ShortSlice => 4,
+            Refusal::Limit => 5,
+            Refusal::Window => 10,
+            Refusal::Sample => 11,
+            Refusal::Event => 12,
+            Refusal::EventBudget => 13,
+            Refusal::OutputBudget => 14,
             Refusal::NormNotFinite => 20,
             Refusal::TooManyHalvings => 21,
             Refusal::AmountNotFinite => 22,

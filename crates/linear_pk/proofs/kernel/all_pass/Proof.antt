@@ -1,32 +1,37 @@
--- `linear_pk::kernel::all_pass` meets its contract. The invariant: whether the first i pass.
+-- `linear_pk::kernel::all_pass` meets its contract. The invariant: what is left to test gives the whole answer.
 use mathlib.Core.Path.{_≡_, refl}
 use borrow.Author.Needs.{needs}
 use native.Mathlib.Omega.{arith}
+use mathlib.Core.Bool.{_&&_}
 use Prim.Native.Nat.{_≤_, _-_}
-use native.Mathlib.Nat.{le-antisymm}
-use native.Mathlib.Numerals.{add-one}
-use lib.ListN.{length}
-use Rattle.matrix.specs.Matrix.{allTo, cell}
+use lib.ListN.{length, drop}
+use lib.Ieee.{nan}
+use Rattle.binary64.specs.Lists.{all}
+use Rattle.binary64.proofs.Folds.{all-more, all-done}
 use Rattle.linear_pk.specs.Tests.{passesTest}
 use Rattle.linear_pk.proofs.kernel.all_pass.Statement.{statement}
 use Rattle.linear_pk.proofs.kernel.all_pass.Tie as tie
 
 abbrev Inv-loop : tie.InvT-loop
-Inv-loop test xs ok₀ i₀ ok i = (i ≤ length xs) × (ok ≡ allTo (λ i. passesTest test (cell xs i)) i)
+Inv-loop test xs ok₀ i₀ ok i = (i ≤ length xs) × (ok && all (passesTest test) (drop i xs) ≡ all (passesTest test) xs)
 
 abbrev μ-loop : tie.MeasureT-loop
 μ-loop test xs ok₀ i₀ ok i = length xs - i
 
 loop-holds : tie.Need-loop-holds Inv-loop μ-loop
-unfolding allTo
 loop-holds c = (omega arith, refl)
 
 loop-again : tie.Need-loop-again Inv-loop μ-loop
-unfolding allTo
-loop-again c = (omega arith, rw add-one cc)
+loop-again c =
+    let s = c .before .before .before .before .before in
+    let l = c .before .before .before .loop in
+    (omega arith, all-more (passesTest (s .args .test)) (s .args .xs .now) nan (l .i) (l .ok) (c .before .before .loop-test .taken) (c .passes .ensures) (l .inv .1))
 
 returns : tie.Need-returns Inv-loop μ-loop
-returns c = rw (le-antisymm (c .before .loop .inv .0) (c .loop-test .left)) at (c .before .loop .inv .1)
+returns c =
+    let s = c .before .before .before in
+    let l = c .before .loop in
+    all-done (passesTest (s .args .test)) (s .args .xs .now) (l .i) (l .ok) (c .loop-test .left) (l .inv .1)
 
 pub all-pass-spec : {M : Type 1} → statement M
 all-pass-spec =

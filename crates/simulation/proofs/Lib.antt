@@ -1,0 +1,4 @@
+pub mod Folds
+pub mod Packing
+pub mod Prepared
+pub mod KernelRuns
