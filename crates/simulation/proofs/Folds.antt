@@ -11,7 +11,8 @@ use Rattle.binary64.proofs.Folds.{and-regroup, and-whole}
 use Rattle.protocol.specs.Prepare.{eventPasses, eventsPass}
 use Rattle.protocol.specs.declared.Event.{Event}
 use Rattle.protocol.specs.declared.Window.{Window}
-use Rattle.simulation.specs.Packed.{eventAt, packed, seen}
+use Rattle.events.specs.Packed.{eventAt, packed}
+use Rattle.simulation.specs.Entries.{seen}
 
 -- what is left of a list that is packed
 rest : (f : ℕ → Event) (i count : ℕ) → i < count → tabulateFrom i (count - i) f ≡ f i ∷ tabulateFrom (suc i) (count - suc i) f

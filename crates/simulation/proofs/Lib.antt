@@ -1,4 +1,3 @@
 pub mod Folds
-pub mod Packing
 pub mod Prepared
 pub mod KernelRuns

@@ -18,7 +18,7 @@ use Rattle.refusal.specs.Result.{done}
 use Rattle.linear_pk.specs.LinearPk.{sound, stateCount}
 use Rattle.linear_pk.specs.declared.kernel.LinearPk.{LinearPk}
 use Rattle.simulation.specs.Entries.{prepareEntry}
-use Rattle.simulation.specs.Packed.{eventAt, packed}
+use Rattle.events.specs.Packed.{eventAt, packed}
 
 pub packed-length : (rs : List (List Float)) (ws : List (List ℕ)) (count : ℕ) → length (packed rs ws count) ≡ count
 unfolding packed

@@ -2,13 +2,14 @@
 use mathlib.Core.Bool.{_&&_}
 use mathlib.Core.List.{List, [], _∷_}
 use mathlib.Core.Option.{Option, some, none}
-use Prim.Native.Nat.{ℕ}
+use Prim.Native.Nat.{ℕ, zero, suc}
 use lib.Dec.{leb}
 use lib.ListN.{length, take}
 use lib.Ieee.{Float}
 use Rattle.refusal.specs.Result.{Result, refused, done}
 use Rattle.linear_pk.specs.LinearPk.{sound, stateCount}
 use Rattle.linear_pk.specs.declared.kernel.LinearPk.{LinearPk}
+use Rattle.events.specs.Packed.{eventAt}
 use Rattle.protocol.specs.First.{unless, firstOf}
 use Rattle.protocol.specs.Entry.{mostEvents, mostSamples}
 use Rattle.protocol.specs.Prepare.{prepare}
@@ -28,3 +29,13 @@ prepareEntry k w ss es count =
     ∷ ownNumber (sound k)
     ∷ prepare (stateCount k) w ss (take count es)
     ∷ [])
+
+-- the number of a preparation; 0 stands for none
+abbrev pub numberOf : Option ℕ → ℕ
+numberOf none = 0
+numberOf (some c) = c
+
+-- the first n, the last one in front
+unfoldable pub seen : List (List Float) → List (List ℕ) → ℕ → List Event
+seen rs ws zero = []
+seen rs ws (suc n) = eventAt rs ws n ∷ seen rs ws n

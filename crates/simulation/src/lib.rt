@@ -1,10 +1,7 @@
-// The rows of a run: preparation and the analytic run.
-mod events;
+// The rows of a run: preparation.
 mod prepare;
 
 pub use prepare::prepare_simulation;
 
-// The most events of a run's list, and the most samples.
-pub const EVENTS: usize = 192;
-
+// The most samples of a run.
 pub const SAMPLES: usize = 256;

@@ -1,7 +1,6 @@
 // `prepare_simulation`: 13, 10, 11, 12 event by event, 14.
-use crate::EVENTS;
 use crate::SAMPLES;
-use crate::events;
+use events::EVENTS;
 use linear_pk::LinearPk;
 use protocol::Event;
 use protocol::Window;
@@ -14,10 +13,9 @@ ghost use Rattle.refusal.specs.Numbers.{replyNumber};
 ghost use Rattle.matrix.specs.Matrix.{tabulate};
 ghost use mathlib.Core.List.{[]};
 ghost use Rattle.binary64.specs.Lists.{any, all};
-ghost use Rattle.protocol.specs.Events.{time as timeOf, target as targetOf};
 ghost use Rattle.protocol.specs.Prepare.{windowPasses, within as withinOf, sameReset, valuesPass, eventPasses, eventsPass, reckoned, prepare};
-ghost use Rattle.simulation.specs.Packed.{eventAt, packed, seen, numberOf};
-ghost use Rattle.simulation.specs.Entries.{prepareEntry};
+ghost use Rattle.events.specs.Packed.{eventAt, packed};
+ghost use Rattle.simulation.specs.Entries.{seen, numberOf, prepareEntry};
 
 // Ends finite and increasing, tolerances finite and above 0.
 fn window_passes(window: Window) -> bool
@@ -131,56 +129,6 @@ fn values_pass(
     }
 }
 
-fn time_of(event: Event) -> f64
-    ensures { λ r. ⌜ r ≡ timeOf event ⌝ }
-{
-    match event {
-        Event::Bolus {
-            time,
-            target: _,
-            amount: _,
-        } => time,
-        Event::Infusion {
-            time,
-            target: _,
-            amount: _,
-            duration: _,
-        } => time,
-        Event::Reset {
-            time,
-            target: _,
-            value: _,
-            order: _,
-            stops: _,
-        } => time,
-    }
-}
-
-fn target_of(event: Event) -> usize
-    ensures { λ r. ⌜ r ≡ targetOf event ⌝ }
-{
-    match event {
-        Event::Bolus {
-            time: _,
-            target,
-            amount: _,
-        } => target,
-        Event::Infusion {
-            time: _,
-            target,
-            amount: _,
-            duration: _,
-        } => target,
-        Event::Reset {
-            time: _,
-            target,
-            value: _,
-            order: _,
-            stops: _,
-        } => target,
-    }
-}
-
 // Whether the event at place i passes 12.
 fn event_passes(
     n: usize,
@@ -193,8 +141,8 @@ fn event_passes(
     ensures { λ r. ⌜ r ≡ eventPasses n window (seen (now (reals .entry)) (now (words .entry)) i) (eventAt (now (reals .entry)) (now (words .entry)) i) ⌝ }
 {
     let event = events::event_at(reals, words, i);
-    within(window, time_of(event))
-        & ((target_of(event) < n) & values_pass(window, reals, words, i, event))
+    within(window, events::time_of(event))
+        & ((events::target_of(event) < n) & values_pass(window, reals, words, i, event))
 }
 
 fn events_pass(

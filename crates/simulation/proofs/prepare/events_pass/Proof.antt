@@ -6,7 +6,7 @@ use Prim.Native.Nat.{_≤_, _-_}
 use mathlib.Core.Bool.{_&&_}
 use mathlib.Core.List.{[]}
 use Rattle.protocol.specs.Prepare.{eventsPass}
-use Rattle.simulation.specs.Packed.{packed}
+use Rattle.events.specs.Packed.{packed}
 use Rattle.simulation.proofs.Folds.{passFrom, events-start, events-more, events-done}
 use Rattle.simulation.proofs.prepare.events_pass.Statement.{statement}
 use Rattle.simulation.proofs.prepare.events_pass.Tie as tie

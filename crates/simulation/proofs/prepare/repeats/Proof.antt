@@ -7,7 +7,7 @@ use native.Mathlib.Nat.{le-antisymm}
 use native.Mathlib.Numerals.{add-one}
 use Rattle.binary64.specs.Lists.{any}
 use Rattle.protocol.specs.Prepare.{sameReset}
-use Rattle.simulation.specs.Packed.{seen}
+use Rattle.simulation.specs.Entries.{seen}
 use Rattle.simulation.proofs.prepare.repeats.Statement.{statement}
 use Rattle.simulation.proofs.prepare.repeats.Tie as tie
 

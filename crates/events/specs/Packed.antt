@@ -1,0 +1,60 @@
+-- Events in arrays of numbers, which the code lends to its loops: time, amount or value, duration; kind, target, order, whether it stops.
+use mathlib.Core.List.{List, [], _∷_}
+use mathlib.Core.Option.{Option, some, none}
+use mathlib.Core.Bool.{Bool, false, cond, _&&_, _||_}
+use Prim.Native.Nat.{ℕ, zero, suc, _%_}
+use lib.Dec.{eqb}
+use lib.ListN.{getD}
+use lib.Ieee.{Float, nan, eq}
+use Rattle.binary64.specs.Doubles.{plusZero}
+use Rattle.matrix.specs.Matrix.{tabulate}
+use Rattle.matrix.specs.Arrays.{updated}
+use Rattle.binary64.specs.Lists.{any}
+use Rattle.protocol.specs.Events.{instants, running}
+use Rattle.protocol.specs.declared.Event.{Event}
+use Rattle.protocol.specs.declared.Event.the-variants.{Bolus, Infusion, Reset}
+
+abbrev pub real : List (List Float) → ℕ → ℕ → Float
+real rs i k = getD (getD rs i []) k nan
+
+abbrev pub word : List (List ℕ) → ℕ → ℕ → ℕ
+word ws i k = getD (getD ws i []) k 0
+
+-- the event at place i: kind 0 is a bolus, 1 an infusion, any other a reset
+unfoldable pub eventAt : List (List Float) → List (List ℕ) → ℕ → Event
+eventAt rs ws i =
+    cond (eqb (word ws i 0) 0) (Bolus (real rs i 0) (word ws i 1) (real rs i 1))
+    (cond (eqb (word ws i 0) 1) (Infusion (real rs i 0) (word ws i 1) (real rs i 1) (real rs i 2))
+    (Reset (real rs i 0) (word ws i 1) (real rs i 1) (word ws i 2 % 65536) (eqb (word ws i 3) 1)))
+
+-- the rows of an event
+unfoldable pub realsOf : Event → List Float
+realsOf (Bolus t i a) = t ∷ a ∷ plusZero ∷ []
+realsOf (Infusion t i a d) = t ∷ a ∷ d ∷ []
+realsOf (Reset t i v o c) = t ∷ v ∷ plusZero ∷ []
+
+abbrev pub bit : Bool → ℕ
+bit b = cond b 1 0
+
+unfoldable pub wordsOf : Event → List ℕ
+wordsOf (Bolus t i a) = 0 ∷ i ∷ 0 ∷ 0 ∷ []
+wordsOf (Infusion t i a d) = 1 ∷ i ∷ 0 ∷ 0 ∷ []
+wordsOf (Reset t i v o c) = 2 ∷ i ∷ o ∷ bit c ∷ []
+
+-- the first n events
+unfoldable pub packed : List (List Float) → List (List ℕ) → ℕ → List Event
+packed rs ws n = tabulate n (eventAt rs ws)
+
+-- an event or its end is at t
+abbrev pub happens : Float → Event → Bool
+happens t e = any (λ (x : Float). eq x t) (instants e)
+
+-- a reset at t that stops its target's infusions
+unfoldable pub stopsAt : Float → Event → Bool
+stopsAt t (Bolus s i a) = false
+stopsAt t (Infusion s i a d) = false
+stopsAt t (Reset s i v o c) = eq s t && c
+
+-- the marks of the first n events, behind a reset at t that stops the infusions on the target i
+unfoldable pub markedBy : Float → ℕ → List (List Float) → List (List ℕ) → ℕ → List Bool → List Bool
+markedBy t i rs ws n ms = updated n (λ k m. m || running t i (eventAt rs ws k)) ms

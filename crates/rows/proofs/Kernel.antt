@@ -1,0 +1,116 @@
+-- What `advance` gives: a refusal's number is above 0, and the amounts are as many as were given.
+use mathlib.Core.Path.{_≡_, refl, sym, ap, _∙_, subst}
+use Prim.Native.Nat.{ℕ, zero, suc, _+_, _-_, _<_, _≤_}
+use native.Mathlib.Nat.{lt-irrefl}
+use native.Mathlib.Omega.{arith}
+use mathlib.Core.Bool.{Bool, true, false, _&&_, cond}
+use mathlib.Core.List.{List, [], _++_, append-nil}
+use lib.Dec.{T, leb}
+use lib.ListN.{length, take, drop, length-drop, length-append, drop-of-length-le}
+use lib.Seq.{length-take-le, take-append-le, take-all}
+use lib.Ieee.{Float, binary64, mul, eq, lt}
+use lib.Ieee.Scale.{finite}
+use Rattle.binary64.specs.Doubles.{plusZero, half, nonnegative}
+use Rattle.refusal.specs.Result.{Result, refused, done, andThen, unless, number, laid}
+use Rattle.matrix.specs.Matrix.{Matrix, cell, tabulate, allTo}
+use Rattle.binary64.specs.Lists.{all, amountsPass}
+use Rattle.matrix.specs.Exponential.{Scheme, scheme, Exponential, halvings, countOf, normTo, taylor, allFinite, exponential}
+use Rattle.matrix.proofs.Filled.{tabulate-length}
+use Rattle.linear_pk.specs.declared.kernel.LinearPk.{LinearPk}
+use Rattle.linear_pk.specs.LinearPk.{counted, ratesFinite, sound, stateCount, propagator, amountTo, applied, over, interval, advance}
+use Rattle.linear_pk.proofs.Counted.{and-first, amounts-count}
+use Rattle.rows.specs.Told.{kernelAdvance}
+
+abbrev Sure : {A : Type 0} → (A → Type 0) → Result A → Type 0
+Sure P (refused c) = 0 < c
+Sure P (done a) = P a
+
+abbrev Any : {A : Type 0} → A → Type 0
+Any a = Unit {0}
+
+sure-then : {A B : Type 0} (P : A → Type 0) (Q : B → Type 0) (r : Result A) (f : A → Result B) → Sure P r → ((a : A) → P a → Sure Q (f a)) → Sure Q (andThen r f)
+sure-then P Q (refused c) f h g = h
+sure-then P Q (done a) f h g = g a h
+
+sure-unless : {A : Type 0} (P : A → Type 0) (b : Bool) (c : ℕ) (a : A) → 0 < c → (b ≡ true → P a) → Sure P (unless b c a)
+sure-unless P true c a l h = h refl
+sure-unless P false c a l h = l
+
+sure-halvings : (limit : Float) (d n : ℕ) (x : Float) → Sure Any (halvings limit d n x)
+unfolding halvings
+sure-halvings limit zero n x = omega arith
+sure-halvings limit (suc d) n x = on (lt limit x) (sure-halvings limit d (suc n) (mul binary64 x half))
+  where
+    on : (b : Bool) → Sure Any (halvings limit d (suc n) (mul binary64 x half)) → Sure {A = ℕ} Any (elim b [ false ↦ done n | true ↦ halvings limit d (suc n) (mul binary64 x half) ])
+    on true h = h
+    on false h = tt
+
+module _ (s : Scheme) (k : LinearPk) where
+  sure-sound : Sure Any (sound k)
+  sure-sound = sure-then Any Any (unless (counted k) 1 k) (λ k. unless (ratesFinite k) 2 k) (sure-unless Any (counted k) 1 k (omega arith) (λ _. tt)) (λ j _. sure-unless Any (ratesFinite j) 2 j (omega arith) (λ _. tt))
+
+  sure-count : (x : Float) → Sure Any (countOf (s .threshold) (s .most) x)
+  unfolding countOf
+  sure-count x = sure-then Any Any (unless (finite x) 20 x) (halvings (s .threshold) (suc (s .most)) 0) (sure-unless Any (finite x) 20 x (omega arith) (λ _. tt)) (λ y _. sure-halvings (s .threshold) (suc (s .most)) 0 y)
+
+  sure-exponential : (m : ℕ) (a : Matrix) → Sure Any (exponential s m a)
+  unfolding exponential
+  sure-exponential m a =
+      sure-then Any Any (countOf (s .threshold) (s .most) (normTo a m m)) (λ c. unless (allFinite m (taylor s m c a)) 22 (record { halved = c; matrix = taylor s m c a })) (sure-count (normTo a m m))
+      (λ c _. sure-unless Any (allFinite m (taylor s m c a)) 22 (record { halved = c; matrix = taylor s m c a }) (omega arith) (λ _. tt))
+
+  module _ (x r : List Float) (d : Float) where
+    abbrev Sized : ℕ → List Float → Type 0
+    Sized n y = length y ≡ n
+
+    sure-applied : (n : ℕ) (p : Matrix) → Sure (Sized n) (applied n p x r d)
+    unfolding applied
+    sure-applied n p =
+        sure-then (Sized n) (Sized n) (unless (allTo (λ j. finite (mul binary64 (cell r j) d)) n) 22 (tabulate n (λ i. amountTo p n x r d i n))) (λ y. unless (all nonnegative y) 22 y)
+        (sure-unless (Sized n) (allTo (λ j. finite (mul binary64 (cell r j) d)) n) 22 (tabulate n (λ i. amountTo p n x r d i n)) (omega arith) (λ _. tabulate-length (λ i. amountTo p n x r d i n) n))
+        (λ y h. sure-unless (Sized n) (all nonnegative y) 22 y (omega arith) (λ _. h))
+
+    sure-interval : length x ≡ stateCount k → Sure (Sized (stateCount k)) (interval s k x r d)
+    unfolding interval propagator
+    sure-interval h = on (eq d plusZero)
+      where
+        on : (b : Bool) → Sure (Sized (stateCount k)) (over b x (andThen (propagator s k d) (λ e. applied (stateCount k) (e .matrix) x r d)))
+        on true = h
+        on false = sure-then Any (Sized (stateCount k)) (propagator s k d) (λ e. applied (stateCount k) (e .matrix) x r d) (sure-exponential (stateCount k + stateCount k) _) (λ e _. sure-applied (stateCount k) (e .matrix))
+
+    sure-advance : (room : ℕ) → Sure (Sized (length x)) (advance s k x r d room)
+    unfolding advance
+    sure-advance room =
+        sure-then Any (Sized (length x)) (sound k) _ sure-sound
+        (λ _ _. sure-then (λ (_ : List Float). length x ≡ n) (Sized (length x)) (unless (amountsPass n x && (amountsPass n r && nonnegative d)) 3 x) _
+        (sure-unless (λ (_ : List Float). length x ≡ n) (amountsPass n x && (amountsPass n r && nonnegative d)) 3 x (omega arith) (λ h. amounts-count n x (and-first (amountsPass n x) _ h)))
+        (λ _ e. sure-then Any (Sized (length x)) (unless (leb n room) 4 x) _ (sure-unless Any (leb n room) 4 x (omega arith) (λ _. tt))
+        (λ _ _. subst (λ (j : ℕ). Sure (Sized j) (interval s k x r d)) (sym e) (sure-interval e))))
+      where
+        n : ℕ
+        n = stateCount k
+
+-- ---- the code's advance
+module _ (k : LinearPk) (n : ℕ) (x r : List Float) (d : Float) (room : ℕ) (same : room ≡ n) (count : length x ≡ n) (num reply : ℕ) (same-number : num ≡ reply) (says : reply ≡ number (advance scheme k x r d room)) where
+  e : num ≡ number (advance scheme k x r d room)
+  e = same-number ∙ says
+
+  by-room : advance scheme k x r d room ≡ kernelAdvance k n x r d
+  unfolding kernelAdvance
+  by-room = ap (advance scheme k x r d) same
+
+  pub advance-refused : (num ≡ 0 → ⊥) → refused num ≡ kernelAdvance k n x r d
+  advance-refused h = on (advance scheme k x r d room) e ∙ by-room
+    where
+      on : (a : Result (List Float)) → num ≡ number a → refused num ≡ a
+      on (refused c) q = ap refused q
+      on (done y) q = absurd (h q)
+
+  pub advance-done : num ≡ 0 → (old out rest : List Float) → length old ≡ n → out ≡ laid (advance scheme k x r d room) old → done (take n (out ++ rest)) ≡ kernelAdvance k n x r d
+  advance-done z old out rest l q = on (advance scheme k x r d room) (sure-advance scheme k x r d room) e q ∙ by-room
+    where
+      on : (a : Result (List Float)) → Sure (λ (y : List Float). length y ≡ length x) a → num ≡ number a → out ≡ laid a old → done (take n (out ++ rest)) ≡ a
+      on (refused c) s p q = absurd (lt-irrefl 0 (subst (λ (j : ℕ). 0 < j) (sym p ∙ z) s))
+      on (done y) s p q =
+          let w : out ≡ y = q ∙ ap (λ (v : List Float). y ++ v) (drop-of-length-le old {i = length y} (omega arith)) ∙ append-nil y in
+          ap done (ap (λ (v : List Float). take n (v ++ rest)) w ∙ take-append-le n y rest (omega arith) ∙ take-all n y (omega arith))

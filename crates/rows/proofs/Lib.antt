@@ -1,0 +1,8 @@
+-- The laws of the blocks.
+pub mod Puts
+pub mod Parts
+pub mod Steps
+pub mod Kernel
+pub mod Folds
+pub mod Readings
+pub mod Interval

@@ -1,0 +1,36 @@
+-- `rows::propagate` meets its contract.
+use mathlib.Core.Path.{_≡_, refl, sym}
+use borrow.Author.Needs.{needs}
+use native.Mathlib.Omega.{arith}
+use Prim.Native.Nat.{ℕ, _+_, _≤_, _*_}
+use lib.ListN.{length, take}
+use lib.Seq.{length-take-le}
+use Rattle.rows.proofs.Kernel.{advance-refused, advance-done}
+use Rattle.rows.proofs.propagate.Statement.{statement}
+use Rattle.rows.proofs.propagate.Tie as tie
+
+slice-aggregate-from : tie.Need-slice-aggregate-from
+slice-aggregate-from c = sym (length-take-le _ (c .before .args .t3) (omega arith))
+
+slice-aggregate-input : tie.Need-slice-aggregate-input
+slice-aggregate-input c = sym (length-take-le _ (c .before .before .args .t4) (omega arith))
+
+slice-aggregate-advance : tie.Need-slice-aggregate-advance
+slice-aggregate-advance c = sym (length-take-le _ _ (omega arith))
+
+returns : tie.Need-returns
+returns c =
+    let g = c .before .before .before .before .before .before .before .args in
+    advance-done (g .kernel) (g .n) (take (g .n) (g .t3)) (take (g .n) (g .t4)) (g .duration) _ (length-take-le _ _ (omega arith)) (length-take-le (g .n) (g .t3) (omega arith)) (c .before .number .result) _ (c .before .number .ensures) (c .before .before .before .advance .ensures .0) (c .if1 .taken) _ _ _ (length-take-le _ _ (omega arith)) (c .before .before .before .advance .ensures .1)
+
+returns-2 : tie.Need-returns-2
+returns-2 c =
+    let g = c .before .before .before .before .before .before .before .args in
+    advance-refused (g .kernel) (g .n) (take (g .n) (g .t3)) (take (g .n) (g .t4)) (g .duration) _ (length-take-le _ _ (omega arith)) (length-take-le (g .n) (g .t3) (omega arith)) (c .before .number .result) _ (c .before .number .ensures) (c .before .before .before .advance .ensures .0) (c .if1 .left)
+
+pub propagate-spec : {M : Type 1} → statement M
+propagate-spec =
+    tie.close
+    (tie.spec
+    (λ c. search needs) slice-aggregate-from (λ c. search needs) slice-aggregate-input (λ c. search needs) slice-aggregate-advance
+    (λ c κs. search needs) (λ c κs. search needs) returns returns-2)

@@ -1,0 +1,288 @@
+// The blocks of a run: rows written into lent slices, the readings and the arrival of an interval.
+
+use linear_pk::LinearPk;
+use matrix::STATES;
+use refusal::Reply;
+ghost use mathlib.Core.Path.{_≡_};
+ghost use mathlib.Core.List.{[], _∷_, map, _++_};
+ghost use Prim.Native.Nat.{ℕ, _+_, _*_, _≤_, _<_};
+ghost use lib.ListN.{length, take};
+ghost use Rattle.protocol.specs.Events.{inside};
+ghost use Rattle.protocol.specs.Schedule.{reading, arrive as arrives, onInterval};
+ghost use Rattle.binary64.specs.Lists.{all};
+ghost use lib.Ieee.Scale.{finite};
+ghost use Rattle.rows.specs.Written.{Cells, put, cells};
+ghost use Rattle.rows.specs.Told.{kernelAdvance, movedOf, Ran, Fits};
+
+// The most events of a run's list.
+pub const EVENTS: usize = 192;
+
+// Where a run has come to: whether it stopped, by which number and at which time; the amounts, what is left of the budget of advances, the advances made, and the rows written.
+pub struct Progress {
+    pub stopped: bool,
+    pub number: u64,
+    pub time: f64,
+    pub amounts: [f64; STATES],
+    pub left: u64,
+    pub made: u64,
+    pub rows: usize,
+}
+
+// What the kernel's advance gives: amounts, or a number.
+pub struct Move {
+    pub refused: bool,
+    pub number: u64,
+    pub amounts: [f64; STATES],
+}
+
+// A row into the three slices: its time and its side's code at place row, its n amounts from place row × n on.
+pub fn put_row(
+    times: &mut [f64],
+    sides: &mut [u8],
+    values: &mut [f64],
+    row: usize,
+    n: usize,
+    time: f64,
+    side: u8,
+    amounts: [f64; STATES],
+)
+    requires { ⌜ (n ≤ 4) × (row < length (now times)) × (row < length (now sides)) × (row * n + n ≤ length (now values)) ⌝ }
+    ensures { λ _. ⌜ (now (times .exit) ≡ put row (time ∷ []) (now (times .entry))) × (now (sides .exit) ≡ put row (side ∷ []) (now (sides .entry)))
+        × (now (values .exit) ≡ put (row * n) (take n amounts) (now (values .entry))) ⌝ }
+{
+    times[row] = time;
+    sides[row] = side;
+    let at = row * n;
+    let state = &amounts[..n];
+    linear_pk::lay(state, &mut values[at..]);
+}
+
+// The kernel's advance over n states.
+pub fn propagate(
+    kernel: LinearPk,
+    n: usize,
+    amounts: [f64; STATES],
+    rates: [f64; STATES],
+    duration: f64,
+) -> Move
+    requires { ⌜ n ≤ 4 ⌝ }
+    ensures { λ r. ⌜ movedOf n r ≡ kernelAdvance kernel n (take n amounts) (take n rates) duration ⌝ }
+{
+    let mut next = [0.0f64; STATES];
+    let from = &amounts[..n];
+    let input = &rates[..n];
+    let reply = kernel.advance(from, input, duration, &mut next[..n]);
+    let number = refusal::number(reply);
+    if number == 0 {
+        return Move {
+            refused: false,
+            number: 0,
+            amounts: next,
+        };
+    }
+    Move {
+        refused: true,
+        number: number,
+        amounts: next,
+    }
+}
+
+// One reading at s, from the boundary t: the row of an advance from the amounts there.
+fn read(
+    kernel: LinearPk,
+    n: usize,
+    t: f64,
+    rates: [f64; STATES],
+    s: f64,
+    start: Progress,
+    times: &mut [f64],
+    sides: &mut [u8],
+    values: &mut [f64],
+) -> Progress
+    requires { ⌜ Fits n start (reading t (take n rates) s ∷ []) (cells (now times) (now sides) (now values)) ⌝ }
+    ensures { λ r. ⌜ Ran (kernelAdvance kernel n) n start (reading t (take n rates) s ∷ []) (cells (now (times .entry)) (now (sides .entry)) (now (values .entry)))
+        r (cells (now (times .exit)) (now (sides .exit)) (now (values .exit))) ⌝ }
+{
+    let amounts = start.amounts;
+    let left = start.left;
+    let made = start.made + 1;
+    let row = start.rows;
+    if left == 0 {
+        return Progress {
+            stopped: true,
+            number: 30,
+            time: s,
+            amounts: amounts,
+            left: 0,
+            made: made,
+            rows: row,
+        };
+    }
+    let m = propagate(kernel, n, amounts, rates, s - t);
+    if m.refused {
+        return Progress {
+            stopped: true,
+            number: m.number,
+            time: s,
+            amounts: amounts,
+            left: left - 1,
+            made: made,
+            rows: row,
+        };
+    }
+    let reached = m.amounts;
+    put_row(times, sides, values, row, n, s, 2, reached);
+    Progress {
+        stopped: false,
+        number: 0,
+        time: 0.0,
+        amounts: amounts,
+        left: left - 1,
+        made: made,
+        rows: row + 1,
+    }
+}
+
+// The readings strictly inside from t to u, each from the amounts at t.
+pub fn read_all(
+    kernel: LinearPk,
+    n: usize,
+    t: f64,
+    rates: [f64; STATES],
+    u: f64,
+    samples: &[f64],
+    start: Progress,
+    times: &mut [f64],
+    sides: &mut [u8],
+    values: &mut [f64],
+) -> Progress
+    requires { ⌜ Fits n start (map (reading t (take n rates)) (inside t u (now samples))) (cells (now times) (now sides) (now values)) ⌝ }
+    ensures { λ r. ⌜ Ran (kernelAdvance kernel n) n start (map (reading t (take n rates)) (inside t u (now (samples .entry))))
+        (cells (now (times .entry)) (now (sides .entry)) (now (values .entry))) r (cells (now (times .exit)) (now (sides .exit)) (now (values .exit))) ⌝ }
+{
+    let amounts = start.amounts;
+    let mut p = Progress {
+        stopped: false,
+        number: 0,
+        time: 0.0,
+        amounts: amounts,
+        left: start.left,
+        made: start.made,
+        rows: start.rows,
+    };
+    let mut k = 0usize;
+    while k < samples.len() {
+        let s = samples[k];
+        if t < s {
+            if s < u {
+                let q = read(kernel, n, t, rates, s, p, times, sides, values);
+                if q.stopped {
+                    return q;
+                }
+                p = q;
+            }
+        }
+        k += 1;
+    }
+    p
+}
+
+// The advance from the boundary t to the next boundary u.
+fn arrive(
+    kernel: LinearPk,
+    n: usize,
+    t: f64,
+    rates: [f64; STATES],
+    u: f64,
+    start: Progress,
+) -> Progress
+    requires { ⌜ (n ≤ 4) × (start .made < 4294967296) ⌝ }
+    ensures { λ r. ⌜ ((c : Cells) → Ran (kernelAdvance kernel n) n start (arrives t (take n rates) u ∷ []) c r c) ⌝ }
+{
+    let amounts = start.amounts;
+    let left = start.left;
+    let made = start.made + 1;
+    let row = start.rows;
+    if left == 0 {
+        return Progress {
+            stopped: true,
+            number: 30,
+            time: u,
+            amounts: amounts,
+            left: 0,
+            made: made,
+            rows: row,
+        };
+    }
+    let m = propagate(kernel, n, amounts, rates, u - t);
+    if m.refused {
+        return Progress {
+            stopped: true,
+            number: m.number,
+            time: u,
+            amounts: amounts,
+            left: left - 1,
+            made: made,
+            rows: row,
+        };
+    }
+    let reached = m.amounts;
+    Progress {
+        stopped: false,
+        number: 0,
+        time: 0.0,
+        amounts: reached,
+        left: left - 1,
+        made: made,
+        rows: row,
+    }
+}
+
+fn all_finite(values: &[f64]) -> bool
+    ensures { λ r. ⌜ r ≡ all finite (now (values .entry)) ⌝ }
+{
+    let mut ok = true;
+    let mut i = 0usize;
+    while i < values.len() {
+        ok = ok & binary64::is_finite(values[i]);
+        i += 1;
+    }
+    ok
+}
+
+// From the boundary t to the next boundary u at the summed rates: 32, the readings, the arrival.
+pub fn on_interval(
+    kernel: LinearPk,
+    n: usize,
+    t: f64,
+    rates: [f64; STATES],
+    u: f64,
+    samples: &[f64],
+    start: Progress,
+    times: &mut [f64],
+    sides: &mut [u8],
+    values: &mut [f64],
+) -> Progress
+    requires { ⌜ Fits n start (onInterval t (take n rates) u (now samples)) (cells (now times) (now sides) (now values)) ⌝ }
+    ensures { λ r. ⌜ Ran (kernelAdvance kernel n) n start (onInterval t (take n rates) u (now (samples .entry)))
+        (cells (now (times .entry)) (now (sides .entry)) (now (values .entry))) r (cells (now (times .exit)) (now (sides .exit)) (now (values .exit))) ⌝ }
+{
+    let summed = &rates[..n];
+    if !all_finite(summed) {
+        let amounts = start.amounts;
+        return Progress {
+            stopped: true,
+            number: 32,
+            time: 0.0,
+            amounts: amounts,
+            left: start.left,
+            made: start.made,
+            rows: start.rows,
+        };
+    }
+    let p = read_all(kernel, n, t, rates, u, samples, start, times, sides, values);
+    if p.stopped {
+        return p;
+    }
+    arrive(kernel, n, t, rates, u, p)
+}
