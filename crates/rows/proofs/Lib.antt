@@ -3,6 +3,5 @@ pub mod Puts
 pub mod Parts
 pub mod Steps
 pub mod Kernel
-pub mod Folds
 pub mod Readings
 pub mod Interval

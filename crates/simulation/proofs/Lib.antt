@@ -1,3 +1,4 @@
 pub mod Folds
 pub mod Prepared
 pub mod KernelRuns
+pub mod Boundaries

@@ -8,7 +8,7 @@ use lib.ListN.{length, drop}
 use lib.Ieee.{nan}
 use lib.Ieee.Scale.{finite}
 use Rattle.binary64.specs.Lists.{all}
-use Rattle.rows.proofs.Folds.{all-more, all-done}
+use Rattle.binary64.proofs.Folds.{all-more, all-done}
 use Rattle.rows.proofs.all_finite.Statement.{statement}
 use Rattle.rows.proofs.all_finite.Tie as tie
 
