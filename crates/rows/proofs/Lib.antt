@@ -5,3 +5,6 @@ pub mod Steps
 pub mod Kernel
 pub mod Readings
 pub mod Interval
+pub mod Clears
+pub mod Exits
+pub mod Lengths

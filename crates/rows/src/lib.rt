@@ -1,5 +1,8 @@
-// The blocks of a run: rows written into lent slices, the readings and the arrival of an interval.
+// The blocks of a run: rows written into lent slices, the readings and the arrival of an interval; zeros over the reckoned rows.
+mod clear;
 
+pub use clear::clear_reals;
+pub use clear::clear_sides;
 use linear_pk::LinearPk;
 use matrix::STATES;
 use refusal::Reply;
@@ -13,9 +16,6 @@ ghost use Rattle.binary64.specs.Lists.{all};
 ghost use lib.Ieee.Scale.{finite};
 ghost use Rattle.rows.specs.Written.{Cells, put, cells};
 ghost use Rattle.rows.specs.Told.{kernelAdvance, movedOf, Ran, Fits};
-
-// The most events of a run's list.
-pub const EVENTS: usize = 192;
 
 // Where a run has come to: whether it stopped, by which number and at which time; the amounts, what is left of the budget of advances, the advances made, and the rows written.
 pub struct Progress {
