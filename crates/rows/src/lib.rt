@@ -58,7 +58,7 @@ pub fn put_row(
 }
 
 // The kernel's advance over n states.
-pub fn propagate(
+fn propagate(
     kernel: LinearPk,
     n: usize,
     amounts: [f64; STATES],
@@ -144,7 +144,7 @@ fn read(
 }
 
 // The readings strictly inside from t to u, each from the amounts at t.
-pub fn read_all(
+fn read_all(
     kernel: LinearPk,
     n: usize,
     t: f64,
