@@ -1,30 +1,24 @@
 -- Single steps of a schedule, in the words of the code.
-use mathlib.Core.Path.{_≡_, refl, sym, ap, ap₂, _∙_, subst}
-use Prim.Native.Nat.{ℕ, zero, suc, _+_, _-_, _*_, _<_, _≤_}
-use native.Mathlib.Omega.{arith}
+use mathlib.Core.Path.{_≡_, refl, ap, _∙_}
+use Prim.Native.Nat.{ℕ, _+_, _-_, _*_, _<_}
 use native.Mathlib.Nat.{add-zero, sub-zero}
-use mathlib.Core.Bool.{Bool, true, false, cond, _&&_}
-use mathlib.Core.List.{List, [], _∷_, _++_, map}
-use borrow.Author.Tests.{lt-ltb, le-ltb}
-use lib.Dec.{ltb}
-use lib.ListN.{length, take, set, getD}
-use lib.Seq.{take-set-lt, getD-take, set-getD}
-use lib.Ieee.{Float, nan, binary64, add, sub}
+use mathlib.Core.Bool.{Bool, true, false}
+use mathlib.Core.List.{List, [], _∷_}
+use borrow.Author.Tests.{lt-ltb}
+use lib.ListN.{take}
+use lib.Ieee.{Float, binary64, sub}
 use lib.Ieee.Scale.{finite}
 use Rattle.binary64.specs.Doubles.{plusZero, nonnegative}
-use Rattle.refusal.specs.Result.{Result, refused, done}
+use Rattle.refusal.specs.Result.{refused}
 use Rattle.protocol.specs.declared.Event.{Event}
-use Rattle.protocol.specs.declared.Event.the-variants.{Bolus, Infusion, Reset}
 use Rattle.binary64.specs.Lists.{all}
-use Rattle.protocol.specs.Events.{target}
 use Rattle.protocol.specs.PlainRun.{rowsLeft}
-use Rattle.protocol.specs.Schedule.{Step, check, pre, post, apply, rates, reading, arrive}
-use Rattle.protocol.specs.Execute.{Propagator, Row, Side, Pre, Post, Reading, State, Outcome, go, stop, dosed, applied, propagate, execute, run, begin}
+use Rattle.protocol.specs.Schedule.{check, apply, rates, reading, arrive}
+use Rattle.protocol.specs.Execute.{Propagator, Reading, Outcome, go, stop, applied, propagate, execute, run, begin}
 use Rattle.rows.specs.Written.{Cells, cells, put, rowAt, written}
-use Rattle.rows.specs.Told.{Told, told, behindOf, after, movedOf, Ran, Fits, boundaryRow, boundaryCode}
+use Rattle.rows.specs.Told.{told, behindOf, after, movedOf, Ran, boundaryRow, boundaryCode}
 use Rattle.rows.specs.declared.Progress.{Progress}
 use Rattle.rows.specs.declared.Move.{Move}
-use Rattle.rows.proofs.Puts.{Here, room-here}
 
 module _ {advance : Propagator} {n : ℕ} (start : Progress) (c : Cells) where
   -- ---- a reading
@@ -131,21 +125,3 @@ module _ {advance : Propagator} {n : ℕ} (start : Progress) (c : Cells) where
     unfolding after run execute
     row-written true d e f g = record { progress = rw (sub-zero (start .left), add-zero (start .made)); cells = rw (e, f, g, d) }
     row-written false d e f g = record { progress = rw (sub-zero (start .left), add-zero (start .made)); cells = rw (e, f, g, d) }
-
-pub row-room : {n : ℕ} (start : Progress) {c : Cells} (t : Float) (b : Bool) → Fits n start (boundaryRow b t ∷ []) c → Here n (start .rows) c
-row-room {n} start t true f = room-here n (start .rows) (f .room)
-row-room {n} start t false f = room-here n (start .rows) (f .room)
-
--- ---- what an event makes of the first n amounts
-module _ (n : ℕ) (a : List Float) (t : Float) (i : ℕ) where
-  pub dosed-bolus : (x : Float) → i < n → take n (set a i (add binary64 (getD a i nan) x)) ≡ applied (Bolus t i x) (take n a)
-  unfolding target dosed
-  dosed-bolus x h = take-set-lt n a i (add binary64 (getD a i nan) x) h ∙ ap (λ (v : Float). set (take n a) i (add binary64 v x)) (sym (getD-take n a i nan h))
-
-  pub dosed-reset : (v : Float) (o : ℕ) (b : Bool) → i < n → take n (set a i v) ≡ applied (Reset t i v o b) (take n a)
-  unfolding target dosed
-  dosed-reset v o b h = take-set-lt n a i v h
-
-pub dosed-infusion : (n : ℕ) (a : List Float) {e : Event} {t : Float} {i : ℕ} {x d : Float} → e ≡ Infusion t i x d → take n a ≡ applied e (take n a)
-unfolding target dosed
-dosed-infusion n a {e} {t} {i} {x} {d} h = rw h (sym (set-getD (take n a) i nan))

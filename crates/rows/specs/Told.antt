@@ -2,7 +2,7 @@
 use mathlib.Core.Path.{_≡_}
 use Prim.Native.Nat.{ℕ, _+_, _-_, _≤_}
 use mathlib.Core.Bool.{Bool, true, false, cond}
-use mathlib.Core.List.{List, [], _∷_, _++_, map}
+use mathlib.Core.List.{List}
 use lib.ListN.{length, take}
 use lib.Ieee.{Float}
 use Rattle.binary64.specs.Doubles.{plusZero}
@@ -10,10 +10,8 @@ use Rattle.refusal.specs.Result.{Result, refused, done}
 use Rattle.matrix.specs.Exponential.{scheme}
 use Rattle.linear_pk.specs.declared.kernel.LinearPk.{LinearPk}
 use Rattle.linear_pk.specs.LinearPk.{advance}
-use Rattle.protocol.specs.declared.Event.{Event}
-use Rattle.binary64.specs.Lists.{pick}
-use Rattle.protocol.specs.Schedule.{Step, check, pre, post, apply}
-use Rattle.protocol.specs.Execute.{Propagator, Row, State, Outcome, go, stop, run, begin}
+use Rattle.protocol.specs.Schedule.{Step, pre, post}
+use Rattle.protocol.specs.Execute.{Propagator, Row, Outcome, go, stop, run, begin}
 use Rattle.protocol.specs.PlainRun.{rowsLeft}
 use Rattle.protocol.proofs.RowCounts.{total, rowCount}
 use Rattle.rows.specs.Written.{Cells, written, Room}
@@ -79,10 +77,6 @@ boundaryRow false t = pre t
 abbrev pub boundaryCode : Bool → ℕ
 boundaryCode true = 2
 boundaryCode false = 1
-
--- what is done at the boundary t: whether there is a pre row, and the resets and boluses in turn
-abbrev pub boundarySteps : Float → Bool → List Event → List Step
-boundarySteps t here es = check t ∷ (pick here (pre t) [] ++ (map (apply t) es ++ (post t ∷ [])))
 
 -- ---- the kernel's advance
 unfoldable pub kernelAdvance : LinearPk → ℕ → Propagator
