@@ -20,7 +20,7 @@ use Rattle.protocol.specs.declared.Window.{Window}
 use Rattle.binary64.specs.Lists.{any, pick, keep, gather}
 use Rattle.protocol.specs.Events.{instants, sortedUnique, boundaryTimes, boundaries, hasEvent, resets, boluses, inside}
 use Rattle.protocol.specs.Prepare.{reckoned}
-use Rattle.protocol.specs.Schedule.{Step, check, pre, post, apply, rates, reading, arrive, summed, marked, atBoundary, onInterval, following, fromFirst, schedule}
+use Rattle.protocol.specs.Schedule.{Step, check, pre, post, apply, rates, reading, arrive, summed, marked, atBoundary, onInterval, following, fromFirst, schedule, rowCount, total}
 use Rattle.protocol.specs.Execute.{Propagator, State, Outcome, go, stop, run, begin, runOf}
 use Rattle.protocol.specs.PlainRun.{Prepared, rowsLeft, advancesBy}
 use Rattle.protocol.proofs.ListLaws.{or-left, or-right, All-map, All-both}
@@ -29,22 +29,9 @@ use Rattle.protocol.proofs.FirstStop.{stop-splits}
 use Rattle.protocol.proofs.Effects.{leaves, rowsBy, rowsAll, run-left, stop-left}
 
 -- ---- counts over a schedule
-abbrev pub total : (Step → ℕ) → List Step → ℕ
-total f [] = 0
-total f (x ∷ xs) = f x + total f xs
-
 pub total-append : (f : Step → ℕ) (xs ys : List Step) → total f (xs ++ ys) ≡ total f xs + total f ys
 total-append f [] ys = sym (zero-add (total f ys))
 total-append f (x ∷ xs) ys = ap (_+_ (f x)) (total-append f xs ys) ∙ sym (add-assoc (f x) (total f xs) (total f ys))
-
-abbrev pub rowCount : Step → ℕ
-rowCount (check t) = 0
-rowCount (pre t) = 1
-rowCount (post t) = 1
-rowCount (apply t e) = 0
-rowCount (rates r) = 0
-rowCount (reading t r u) = 1
-rowCount (arrive t r u) = 0
 
 abbrev advanceCount : Step → ℕ
 advanceCount x = length (advancesBy x)

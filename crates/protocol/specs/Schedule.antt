@@ -1,6 +1,6 @@
 -- 01, "The rows of a run": what a run does, in which order, worked from the arguments alone, as a list of steps. A step holds all that it needs but the amounts.
 -- Rust: the loop of `simulate_matrix`, lib.rs, analytic path. Definitions only.
-use Prim.Native.Nat.{ℕ}
+use Prim.Native.Nat.{ℕ, _+_}
 use mathlib.Core.Bool.{Bool, false, not, cond, _&&_, _||_}
 use mathlib.Core.List.{List, [], _∷_, _++_, map, zipWith}
 use lib.ListN.{getD, set, replicate, length}
@@ -84,3 +84,18 @@ fromFirst n es ss (t ∷ ts) = following n es ss (replicate (length es) false) t
 unfoldable pub schedule : ℕ → Window → List Float → List Event → List Step
 unfolding fromFirst sortedUnique boundaries
 schedule n w ss es = fromFirst n es (sortedUnique ss) (boundaries w es)
+
+-- the rows of a step
+abbrev pub rowCount : Step → ℕ
+rowCount (check t) = 0
+rowCount (pre t) = 1
+rowCount (post t) = 1
+rowCount (apply t e) = 0
+rowCount (rates r) = 0
+rowCount (reading t r u) = 1
+rowCount (arrive t r u) = 0
+
+-- over the steps of a schedule
+abbrev pub total : (Step → ℕ) → List Step → ℕ
+total f [] = 0
+total f (x ∷ xs) = f x + total f xs

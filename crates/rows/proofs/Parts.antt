@@ -12,11 +12,11 @@ use lib.Ieee.Scale.{finite}
 use Rattle.binary64.specs.Doubles.{plusZero, nonnegative}
 use Rattle.refusal.specs.Result.{Result, refused, done}
 use Rattle.binary64.specs.Lists.{all}
-use Rattle.protocol.specs.Schedule.{Step, check, pre, post, apply, rates, reading, arrive}
+use Rattle.protocol.specs.Schedule.{Step, check, pre, post, apply, rates, reading, arrive, rowCount, total}
 use Rattle.protocol.specs.Execute.{Propagator, Row, Advance, State, Outcome, go, stop, andThen, settle, counted, withRow, withAmounts, applied, Reading, propagate, execute, run, begin}
 use Rattle.protocol.specs.PlainRun.{rowsLeft}
 use Rattle.protocol.proofs.Frame.{outBehind, run-parts}
-use Rattle.protocol.proofs.RowCounts.{total, total-append, rowCount, rows-most}
+use Rattle.protocol.proofs.RowCounts.{total-append, rows-most}
 use Rattle.rows.specs.Written.{Cells, written, Room}
 use Rattle.rows.specs.Told.{Told, told, behindOf, after, Ran, Fits}
 use Rattle.rows.specs.declared.Progress.{Progress}

@@ -10,10 +10,9 @@ use Rattle.refusal.specs.Result.{Result, refused, done}
 use Rattle.matrix.specs.Exponential.{scheme}
 use Rattle.linear_pk.specs.declared.kernel.LinearPk.{LinearPk}
 use Rattle.linear_pk.specs.LinearPk.{advance}
-use Rattle.protocol.specs.Schedule.{Step, pre, post}
+use Rattle.protocol.specs.Schedule.{Step, rowCount, total}
 use Rattle.protocol.specs.Execute.{Propagator, Row, Outcome, go, stop, run, begin}
 use Rattle.protocol.specs.PlainRun.{rowsLeft}
-use Rattle.protocol.proofs.RowCounts.{total, rowCount}
 use Rattle.rows.specs.Written.{Cells, written, Room}
 use Rattle.rows.specs.declared.Progress.{Progress}
 use Rattle.rows.specs.declared.Move.{Move}
@@ -67,16 +66,6 @@ pub record Fits (n : ℕ) (start : Progress) (xs : List Step) (c : Cells) : Type
   pub states : n ≤ 4
   pub room : Room n (start .rows + total rowCount xs) c
   pub few : start .made + length xs ≤ 4294967296
-
--- the post row, or the pre row
-abbrev pub boundaryRow : Bool → Float → Step
-boundaryRow true t = post t
-boundaryRow false t = pre t
-
--- the code of its side
-abbrev pub boundaryCode : Bool → ℕ
-boundaryCode true = 2
-boundaryCode false = 1
 
 -- ---- the kernel's advance
 unfoldable pub kernelAdvance : LinearPk → ℕ → Propagator
