@@ -11,6 +11,7 @@ use lib.ListN.{length, getD, set, take, length-set}
 use lib.Seq.{getD-set-same, getD-set-other}
 use lib.Ieee.{Float, nan}
 use Rattle.matrix.specs.Matrix.{tabulate, tabulateFrom}
+use Rattle.matrix.proofs.Filled.{tabulate-length}
 use Rattle.protocol.specs.Events.{order}
 use Rattle.protocol.specs.declared.Event.{Event}
 use Rattle.protocol.specs.declared.Event.the-variants.{Bolus, Infusion, Reset}
@@ -74,3 +75,7 @@ packs-more es i rs ws {r} {w} l h p q o =
 pub packs-all : (es : List Event) (i count : ℕ) (rs : List (List Float)) (ws : List (List ℕ)) → count ≤ i → count ≤ length es → Packs es i rs ws → packed rs ws count ≡ take count es
 unfolding packed
 packs-all es i count rs ws a b h = tabulate-take (eventAt rs ws) none count es b (λ (k : ℕ) (l : k < count). h .held k (omega arith))
+
+pub packed-length : (rs : List (List Float)) (ws : List (List ℕ)) (count : ℕ) → length (packed rs ws count) ≡ count
+unfolding packed
+packed-length rs ws count = tabulate-length (eventAt rs ws) count

@@ -7,7 +7,10 @@ use protocol::Window;
 ghost use mathlib.Core.Path.{_≡_};
 ghost use mathlib.Core.List.{_++_};
 ghost use Prim.Native.Nat.{_≤_, _+_, _*_};
+ghost use lib.Dec.{T};
 ghost use lib.ListN.{length, take};
+ghost use lib.Ieee.{binary64, fits};
+ghost use Rattle.binary64.specs.Lists.{all};
 ghost use Rattle.protocol.specs.Events.{instants, boundaryTimes, boundaries as boundariesOf};
 ghost use Rattle.events.specs.Packed.{packed};
 
@@ -71,7 +74,8 @@ pub fn boundaries(
     bounds: &mut [f64],
 ) -> usize
     requires { ⌜ (count ≤ 192) × (2 + 2 * count ≤ length (now bounds)) ⌝ }
-    ensures { λ r. ⌜ (r ≤ length (now (bounds .exit))) × (take r (now (bounds .exit)) ≡ boundariesOf window (packed (now (reals .entry)) (now (words .entry)) count)) ⌝ }
+    ensures { λ r. ⌜ (r ≤ length (now (bounds .exit))) × (take r (now (bounds .exit)) ≡ boundariesOf window (packed (now (reals .entry)) (now (words .entry)) count))
+        × T (all (fits binary64) (boundaryTimes (window .start) (window .end) (packed (now (reals .entry)) (now (words .entry)) count))) ⌝ }
 {
     let n = lay(window, reals, words, count, bounds);
     order::sorted_unique(&mut bounds[..n])

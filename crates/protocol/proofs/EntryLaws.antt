@@ -63,7 +63,7 @@ module _ (advance : Propagator) (own : Option ℕ) (n : ℕ) (w : Window) (ss : 
   simulate-refuses c e = ap (λ (o : Option ℕ). elim o as (λ _. Result Outcome) [ none ↦ done (runOf advance n w ss es a) | some c ↦ refused c ]) e
 
 -- ---- the slices keep their lengths
-laid-length : {A : Type 0} (z : A) (k : ℕ) (xs old : List A) → length xs ≤ k → k ≤ length old → length (laid z k xs old) ≡ length old
+pub laid-length : {A : Type 0} (z : A) (k : ℕ) (xs old : List A) → length xs ≤ k → k ≤ length old → length (laid z k xs old) ≡ length old
 laid-length z k xs old h l =
     length-append xs (replicate (k - length xs) z ++ drop k old)
     ∙ ap (_+_ (length xs)) (length-append (replicate (k - length xs) z) (drop k old) ∙ ap₂ _+_ (length-replicate (k - length xs) z) (length-drop k old))
@@ -76,14 +76,14 @@ exit-length : {A : Type 0} (z : A) (cells : Row → List A) (k : ℕ) (o : Outco
 exit-length z cells k (go s) old h l = laid-length z k (gather cells (s .rows)) old h l
 exit-length z cells k (stop c t s) old h l = laid-length z k [] old zero-le l
 
-one-each : {A : Type 0} (f : Row → A) (rs : List Row) → length (gather (λ (r : Row). f r ∷ []) rs) ≡ length rs
+pub one-each : {A : Type 0} (f : Row → A) (rs : List Row) → length (gather (λ (r : Row). f r ∷ []) rs) ≡ length rs
 one-each f [] = refl
 one-each f (r ∷ rs) = ap suc (one-each f rs)
 
-width : (n : ℕ) (r : Row) → T (amountsPass n (r .amounts)) → length (r .amounts) ≡ n
+pub width : (n : ℕ) (r : Row) → T (amountsPass n (r .amounts)) → length (r .amounts) ≡ n
 width n r h = eqb→eq (length (r .amounts)) n (both (eqb (length (r .amounts)) n) (all nonnegative (r .amounts)) h .0)
 
-n-each : (n : ℕ) (rs : List Row) → T (all (λ (r : Row). amountsPass n (r .amounts)) rs) → length (gather (λ (r : Row). r .amounts) rs) ≡ length rs * n
+pub n-each : (n : ℕ) (rs : List Row) → T (all (λ (r : Row). amountsPass n (r .amounts)) rs) → length (gather (λ (r : Row). r .amounts) rs) ≡ length rs * n
 n-each n [] h = sym (zero-mul n)
 n-each n (r ∷ rs) h =
     let k = both (amountsPass n (r .amounts)) (all (λ (r : Row). amountsPass n (r .amounts)) rs) h in

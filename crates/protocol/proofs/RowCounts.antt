@@ -219,7 +219,7 @@ module _ (w : Window) where
         count-any (gather instants es) bs (g .1 .1) p c,
       )
 
-instants-most : (es : List Event) → length (gather instants es) ≤ 2 * length es
+pub instants-most : (es : List Event) → length (gather instants es) ≤ 2 * length es
 instants-most [] = zero-le
 instants-most (e ∷ es) = omega (arith, length-append (instants e) (gather instants es), two e, instants-most es)
   where
@@ -301,7 +301,7 @@ length-firstsFrom x (y ∷ ys) = on (eq x y) (length-firstsFrom x ys) (length-fi
     on true h k = omega arith
     on false h k = omega arith
 
-length-sortedUnique : (xs : List Float) → length (sortedUnique xs) ≤ length xs
+pub length-sortedUnique : (xs : List Float) → length (sortedUnique xs) ≤ length xs
 unfolding sortedUnique firsts
 length-sortedUnique xs = le-trans (on (sortBy totalLe xs)) (le-of-eq (length-sort xs))
   where
@@ -314,11 +314,10 @@ unfoldable pub readings : Window → List Float → List Event → List Float
 readings w ss es = readingsFrom (sortedUnique ss) (boundaries w es)
 
 -- the rows that a run makes are within the reckoned rows, wherever it ends
-pub rows-within : (advance : Propagator) (n : ℕ) (w : Window) (ss : List Float) (es : List Event) → Prepared n w ss es → (a : List Float)
-    → length (rowsLeft (runOf advance n w ss es a)) ≤ reckoned ss es
-unfolding runOf schedule boundaries
-rows-within advance n w ss es g a = le-trans (rows-most advance (w .propagations) a (schedule n w ss es)) (on (boundaries w es) (boundaries-in k) (boundaries-rise k)
-    (sortedUnique-all (λ (b : Float). T (any (λ (x : Float). eq x b) (boundaryTimes (w .start) (w .end) es))) (boundaryTimes (w .start) (w .end) es) (levels w (boundaryTimes (w .start) (w .end) es) (times-in k))))
+pub schedule-within : (n : ℕ) (w : Window) (ss : List Float) (es : List Event) → Prepared n w ss es → total rowCount (schedule n w ss es) ≤ reckoned ss es
+unfolding schedule boundaries
+schedule-within n w ss es g = on (boundaries w es) (boundaries-in k) (boundaries-rise k)
+    (sortedUnique-all (λ (b : Float). T (any (λ (x : Float). eq x b) (boundaryTimes (w .start) (w .end) es))) (boundaryTimes (w .start) (w .end) es) (levels w (boundaryTimes (w .start) (w .end) es) (times-in k)))
   where
     k : Passed w ss es
     k = passed g
@@ -335,6 +334,11 @@ rows-within advance n w ss es g a = le-trans (rows-most advance (w .propagations
           count-most (λ (s : Float). lt t s) (sortedUnique ss),
           length-sortedUnique ss,
         )
+
+pub rows-within : (advance : Propagator) (n : ℕ) (w : Window) (ss : List Float) (es : List Event) → Prepared n w ss es → (a : List Float)
+    → length (rowsLeft (runOf advance n w ss es a)) ≤ reckoned ss es
+unfolding runOf
+rows-within advance n w ss es g a = le-trans (rows-most advance (w .propagations) a (schedule n w ss es)) (schedule-within n w ss es g)
 
 -- a run that reaches the end makes an advance to each boundary behind the first and to each reading
 pub advances-made : (advance : Propagator) (n : ℕ) (w : Window) (ss : List Float) (es : List Event) (a : List Float) (z : State) → runOf advance n w ss es a ≡ go z

@@ -7,7 +7,6 @@ use linear_pk::Made;
 ghost use mathlib.Core.Path.{_≡_};
 ghost use Prim.Native.Nat.{_+_, _≤_, _<_};
 ghost use lib.ListN.{length, take};
-ghost use lib.Ieee.{binary64, ofBits, nanBits};
 ghost use Rattle.replay_linear_pk.specs.Doubles.{sameBits};
 
 // Places of a line's numbers. A list is its count and then its values.
@@ -42,29 +41,12 @@ const CELLS: usize = 11;
 
 const VALUES: usize = 5;
 
-// Whether a pattern is a NaN's.
-fn is_nan(bits: u64) -> bool
-    ensures { λ r. ⌜ r ≡ nanBits binary64 bits ⌝ }
-{
-    bits % 0x8000_0000_0000_0000 > 0x7ff0_0000_0000_0000
-}
-
-// The double of a pattern.
-fn double(bits: u64) -> f64
-    ensures { λ r. ⌜ r ≡ ofBits binary64 bits ⌝ }
-{
-    if is_nan(bits) {
-        return 0.0 / 0.0;
-    }
-    f64::from_bits(bits)
-}
-
 // Whether x has this pattern; all NaNs count as one.
 fn same(x: f64, bits: u64) -> bool
     ensures { λ r. ⌜ r ≡ sameBits x bits ⌝ }
 {
     if x != x {
-        return is_nan(bits);
+        return binary64::is_nan_bits(bits);
     }
     f64::to_bits(x) == bits
 }
@@ -85,7 +67,7 @@ fn doubles(words: &[u64; ROOM], at: usize) -> [f64; VALUES]
 {
     let mut list = [0.0f64; VALUES];
     for i in 0..VALUES {
-        list[i] = double(words[at + 1 + i]);
+        list[i] = binary64::of_bits(words[at + 1 + i]);
     }
     list
 }
@@ -95,7 +77,7 @@ fn absorption(words: &[u64; ROOM]) -> Absorption {
     if words[DEPOT] == 0 {
         Absorption::Absent
     } else {
-        Absorption::FirstOrder(double(words[ABSORPTION]))
+        Absorption::FirstOrder(binary64::of_bits(words[ABSORPTION]))
     }
 }
 
@@ -119,7 +101,7 @@ fn made(words: &[u64; ROOM]) -> Made {
     let v = count(words, VOLUMES, &volumes);
     let e = count(words, EXCHANGE, &exchange);
     LinearPk::new(
-        double(words[CLEARANCE]),
+        binary64::of_bits(words[CLEARANCE]),
         &volumes[..v],
         &exchange[..e],
         absorption(words),
@@ -197,7 +179,7 @@ fn by_advance(words: &[u64; ROOM]) -> Answer
     let rates = doubles(words, RATES);
     let a = count(words, AMOUNTS, &amounts);
     let r = count(words, RATES, &rates);
-    let duration = double(words[DURATION]);
+    let duration = binary64::of_bits(words[DURATION]);
     let mut cells = prefilled();
     let count = count(words, RESULT, &cells);
     let reply = kernel.advance(&amounts[..a], &rates[..r], duration, &mut cells[..count]);

@@ -1,4 +1,3 @@
-pub mod Folds
-pub mod Prepared
 pub mod KernelRuns
-pub mod Boundaries
+pub mod Whole
+pub mod Ahead

@@ -1,41 +1,35 @@
--- The public entries: which test refuses first.
-use mathlib.Core.Bool.{_&&_}
-use mathlib.Core.List.{List, [], _∷_}
-use mathlib.Core.Option.{Option, some, none}
-use Prim.Native.Nat.{ℕ, zero, suc}
+-- `simulate` of the library: which test refuses first, and what the code replies.
+use mathlib.Core.Bool.{cond}
+use mathlib.Core.List.{List}
+use Prim.Native.Nat.{ℕ}
 use lib.Dec.{leb}
-use lib.ListN.{length, take}
+use lib.ListN.{take}
 use lib.Ieee.{Float}
-use Rattle.refusal.specs.Result.{Result, refused, done}
+use Rattle.binary64.specs.Doubles.{plusZero}
+use Rattle.refusal.specs.Numbers.{refusalNumber}
+use Rattle.refusal.specs.Result.{Result, refused}
 use Rattle.linear_pk.specs.LinearPk.{sound, stateCount}
 use Rattle.linear_pk.specs.declared.kernel.LinearPk.{LinearPk}
-use Rattle.events.specs.Packed.{eventAt}
-use Rattle.protocol.specs.First.{unless, firstOf}
-use Rattle.protocol.specs.Entry.{mostEvents, mostSamples}
-use Rattle.protocol.specs.Prepare.{prepare}
+use Rattle.protocol.specs.Execute.{Outcome}
+use Rattle.protocol.specs.Entry.{mostEvents, Room, simulate, Reply}
 use Rattle.protocol.specs.declared.Event.{Event}
 use Rattle.protocol.specs.declared.Window.{Window}
+use Rattle.preparation.specs.Preparation.{ownNumber}
+use Rattle.simulation.specs.KernelRun.{propagatorOf}
+use Rattle.simulation.specs.declared.RunReply.{RunReply}
+use Rattle.simulation.specs.declared.RunReply.the-variants.{Refused, Stopped, Reached}
 
--- the kernel's own number
-abbrev pub ownNumber : Result LinearPk → Option ℕ
-ownNumber (refused c) = some c
-ownNumber (done k) = none
+-- how many cells the lent slices have
+abbrev pub room : ℕ → ℕ → ℕ → Room
+room times sides values = record { times = times; sides = sides; values = values }
 
--- `prepare_simulation` of the first `count` events: 5, a kernel that is none, the preparation
-unfoldable pub prepareEntry : LinearPk → Window → List Float → List Event → ℕ → Option ℕ
-prepareEntry k w ss es count =
-    firstOf
-    (unless (leb count mostEvents && leb (length ss) mostSamples) 5
-    ∷ ownNumber (sound k)
-    ∷ prepare (stateCount k) w ss (take count es)
-    ∷ [])
+-- of the first `count` events: 5 for more than the most, else the library's run
+unfoldable pub simulateEntry : LinearPk → List Float → Window → List Event → ℕ → List Float → Room → Result Outcome
+simulateEntry k a w es count ss cells =
+    cond (leb count mostEvents) (simulate (propagatorOf k) (ownNumber (sound k)) (stateCount k) w ss (take count es) a cells) (refused 5)
 
--- the number of a preparation; 0 stands for none
-abbrev pub numberOf : Option ℕ → ℕ
-numberOf none = 0
-numberOf (some c) = c
-
--- the first n, the last one in front
-unfoldable pub seen : List (List Float) → List (List ℕ) → ℕ → List Event
-seen rs ws zero = []
-seen rs ws (suc n) = eventAt rs ws n ∷ seen rs ws n
+-- what the code replies, case by case
+abbrev pub runReply : RunReply → Reply
+runReply (Refused r) = record { number = refusalNumber r; time = plusZero; rows = 0; advances = 0 }
+runReply (Stopped c t m) = record { number = c; time = t; rows = 0; advances = m }
+runReply (Reached r m) = record { number = 0; time = plusZero; rows = r; advances = m }

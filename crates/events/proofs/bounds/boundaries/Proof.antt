@@ -15,7 +15,7 @@ returns : tie.Need-returns
 unfolding boundaries
 returns c =
     let w = c .before .before .sorted-unique .ensures in
-    (simp length-append (omega arith), take-append-le _ _ _ (w .0) ∙ rw (c .before .before .before .before .before .before .lay .ensures .1) at (w .1))
+    (simp length-append (omega arith), take-append-le _ _ _ (w .0) ∙ rw (c .before .before .before .before .before .before .lay .ensures .1) at (w .1), rw (c .before .before .before .before .before .before .lay .ensures .1) at (w .2))
 
 pub boundaries-spec : {M : Type 1} → statement M
 boundaries-spec =

@@ -18,7 +18,7 @@ no-nan (fin s m e) b t = refl
 
 returns : tie.Need-returns
 unfolding sameBits
-returns c = rw (is-nan (c .before .before .args .x) (c .before .if1 .taken)) (c .is-nan .ensures)
+returns c = rw (is-nan (c .before .before .args .x) (c .before .if1 .taken)) (c .is-nan-bits .ensures)
 
 real : tie.Need-float-to-bits-result
 real c = is-real (c .before .args .x) (c .if1 .left)

@@ -1,0 +1,12 @@
+-- `layout::event_fits` meets its contract.
+use borrow.Author.Needs.{needs}
+use Rattle.layout.specs.Layout.{eventFits}
+use Rattle.layout.proofs.event_fits.Statement.{statement}
+use Rattle.layout.proofs.event_fits.Tie as tie
+
+returns : tie.Need-returns
+unfolding eventFits
+returns c = cc
+
+pub event-fits-spec : {M : Type 1} → statement M
+event-fits-spec = tie.close (tie.spec (λ c κs. search needs) (λ c κs. search needs) (λ c κs. search needs) returns)

@@ -1,0 +1,115 @@
+// Events laid out as 64-bit words, six to an event: kind, time, target, amount or value, duration or order, stops.
+use events::EVENTS;
+use protocol::Event;
+ghost use mathlib.Core.Path.{_≡_};
+ghost use Prim.Native.Nat.{_+_, _*_, _≤_, _<_};
+ghost use lib.ListN.{length};
+ghost use Rattle.matrix.specs.Matrix.{tabulate};
+ghost use Rattle.layout.specs.Layout.{wordAt, doubleAt, eventFits, eventsFit, eventOf, noEvent, eventOrNone};
+
+// Words of an event.
+const WORDS: usize = 6;
+
+// Word k of event i.
+fn word_at(words: &[u64], i: usize, k: usize) -> u64
+    requires { ⌜ (6 * i + 6 ≤ length (now words)) × (k < 6) ⌝ }
+    ensures { λ r. ⌜ r ≡ wordAt (now (words .entry)) i k ⌝ }
+{
+    words[WORDS * i + k]
+}
+
+fn double_at(words: &[u64], i: usize, k: usize) -> f64
+    requires { ⌜ (6 * i + 6 ≤ length (now words)) × (k < 6) ⌝ }
+    ensures { λ r. ⌜ r ≡ doubleAt (now (words .entry)) i k ⌝ }
+{
+    binary64::of_bits(word_at(words, i, k))
+}
+
+fn event_fits(words: &[u64], i: usize) -> bool
+    requires { ⌜ 6 * i + 6 ≤ length (now words) ⌝ }
+    ensures { λ r. ⌜ r ≡ eventFits (now (words .entry)) i ⌝ }
+{
+    let kind = word_at(words, i, 0);
+    let order = word_at(words, i, 4);
+    let stops = word_at(words, i, 5);
+    (kind <= 1) | ((kind == 2) & ((order <= 65535) & (stops <= 1)))
+}
+
+// Whether the words are whole events, each of listed values.
+pub fn events_fit(words: &[u64]) -> bool
+    ensures { λ r. ⌜ r ≡ eventsFit (now (words .entry)) ⌝ }
+{
+    let count = words.len() / WORDS;
+    let mut ok = true;
+    for i in 0..count {
+        ok = ok & event_fits(words, i);
+    }
+    (words.len() % WORDS == 0) & ok
+}
+
+// Event i, whose words are there. A kind above 2 is read as a reset.
+pub fn event_of(words: &[u64], i: usize) -> Event
+    requires { ⌜ 6 * i + 6 ≤ length (now words) ⌝ }
+    ensures { λ r. ⌜ r ≡ eventOf (now (words .entry)) i ⌝ }
+{
+    let kind = word_at(words, i, 0);
+    let time = double_at(words, i, 1);
+    let target = word_at(words, i, 2) as usize;
+    let amount = double_at(words, i, 3);
+    if kind == 0 {
+        return Event::Bolus {
+            time,
+            target,
+            amount,
+        };
+    }
+    if kind == 1 {
+        return Event::Infusion {
+            time,
+            target,
+            amount,
+            duration: double_at(words, i, 4),
+        };
+    }
+    let order = (word_at(words, i, 4) % 65536) as u16;
+    Event::Reset {
+        time,
+        target,
+        value: amount,
+        order,
+        stops: word_at(words, i, 5) == 1,
+    }
+}
+
+// What stands past the last event.
+fn no_event() -> Event
+    ensures { λ r. ⌜ r ≡ noEvent ⌝ }
+{
+    Event::Bolus {
+        time: 0.0,
+        target: 0,
+        amount: 0.0,
+    }
+}
+
+fn event_or_none(words: &[u64], i: usize) -> Event
+    ensures { λ r. ⌜ r ≡ eventOrNone (now (words .entry)) i ⌝ }
+{
+    if i < words.len() / WORDS {
+        event_of(words, i)
+    } else {
+        no_event()
+    }
+}
+
+// The events, in the first places; events past the array's end are left out.
+pub fn events_of(words: &[u64]) -> [Event; EVENTS]
+    ensures { λ r. ⌜ r ≡ tabulate 192 (eventOrNone (now (words .entry))) ⌝ }
+{
+    let none = no_event();
+    let mut list = [none; EVENTS];
+    for i in 0..EVENTS {
+        list[i] = event_or_none(words, i);
+    }
+    list
+}

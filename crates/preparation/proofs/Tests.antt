@@ -1,0 +1,89 @@
+-- The preparation of a packed list, test by test.
+use mathlib.Core.Path.{_≡_, refl}
+use mathlib.Core.Bool.{Bool, true, false}
+use mathlib.Core.List.{List, [], _∷_}
+use mathlib.Core.Option.{Option, some, none}
+use Prim.Native.Nat.{ℕ, suc, _+_, _*_, _≤_}
+use native.Mathlib.Omega.{arith}
+use lib.Dec.{leb}
+use lib.ListN.{length, take}
+use lib.Ieee.{Float}
+use Rattle.protocol.specs.First.{unless, firstOf}
+use Rattle.binary64.specs.Lists.{all}
+use Rattle.protocol.specs.Prepare.{windowPasses, within, eventsPass, reckoned, prepare}
+use Rattle.protocol.specs.declared.Window.{Window}
+use Rattle.protocol.specs.declared.Event.{Event}
+use Rattle.protocol.specs.Entry.{mostEvents, mostSamples}
+use Rattle.refusal.specs.Result.{done}
+use Rattle.refusal.specs.Numbers.{refusalNumber}
+use Rattle.refusal.specs.declared.Refusal.{Refusal}
+use Rattle.refusal.specs.declared.Refusal.the-variants as R
+use Rattle.linear_pk.specs.LinearPk.{sound, stateCount}
+use Rattle.linear_pk.specs.declared.kernel.LinearPk.{LinearPk}
+use Rattle.preparation.specs.Preparation.{prepareEntry, numberOf}
+use Rattle.events.specs.Packed.{packed}
+use Rattle.events.proofs.Packing.{packed-length}
+
+pub prepare-by :
+    (n : ℕ) (w : Window) (ss : List Float) (rs : List (List Float)) (ws : List (List ℕ)) (count : ℕ) {b c d e f : Bool}
+    → b ≡ leb count (w .events) → c ≡ windowPasses w → d ≡ all (within w) ss → e ≡ eventsPass n w [] (packed rs ws count)
+    → f ≡ leb ((4 * count + length ss + 2) * n) (w .outputs)
+    → prepare n w ss (packed rs ws count) ≡ firstOf (unless b 13 ∷ unless c 10 ∷ unless d 11 ∷ unless e 12 ∷ unless f 14 ∷ [])
+unfolding prepare
+prepare-by n w ss rs ws count p q r s t = rw (packed-length rs ws count, ← p, ← q, ← r, ← s, ← t)
+
+first-one : (o : Option ℕ) → firstOf (o ∷ []) ≡ o
+first-one none = refl
+first-one (some c) = refl
+
+pub entry-at :
+    (k : LinearPk) (w : Window) (ss : List Float) (es : List Event) (count : ℕ) {j : LinearPk} → leb count mostEvents ≡ true → leb (length ss) mostSamples ≡ true → sound k ≡ done j
+    → prepareEntry k w ss es count ≡ prepare (stateCount k) w ss (take count es)
+unfolding prepareEntry
+entry-at k w ss es count p q h = rw (p, q, h) (first-one (prepare (stateCount k) w ss (take count es)))
+
+-- ---- 0 stands for none
+pub refusal-number : (r : Refusal) → 1 ≤ refusalNumber r
+refusal-number r = by-cases r
+  where
+    by-cases : (r : Refusal) → 1 ≤ refusalNumber r
+    by-cases R.Parameters = omega arith
+    by-cases R.RateNotFinite = omega arith
+    by-cases R.Argument = omega arith
+    by-cases R.ShortSlice = omega arith
+    by-cases R.Limit = omega arith
+    by-cases R.Window = omega arith
+    by-cases R.Sample = omega arith
+    by-cases R.Event = omega arith
+    by-cases R.EventBudget = omega arith
+    by-cases R.OutputBudget = omega arith
+    by-cases R.NormNotFinite = omega arith
+    by-cases R.TooManyHalvings = omega arith
+    by-cases R.AmountNotFinite = omega arith
+    by-cases R.ConcentrationNotFinite = omega arith
+
+-- a number above 0 is that of the first test that fails
+pub first-refused : (o : Option ℕ) (os : List (Option ℕ)) {c : ℕ} → 1 ≤ c → c ≡ numberOf o → c ≡ numberOf (firstOf (o ∷ os))
+first-refused none os h e = absurd (no h e)
+  where
+    no : {c : ℕ} → 1 ≤ c → c ≡ 0 → ⊥
+    no h e = omega arith
+first-refused (some k) os h e = e
+
+pub prepare-passes : (n : ℕ) (w : Window) (ss : List Float) (es : List Event) → 0 ≡ numberOf (prepare n w ss es) → prepare n w ss es ≡ none
+unfolding prepare
+prepare-passes n w ss es = on (leb (length es) (w .events)) (windowPasses w) (all (within w) ss) (eventsPass n w [] es) (leb (reckoned ss es * n) (w .outputs))
+  where
+    no : {A : Type 0} {c : ℕ} → 0 ≡ suc c → A
+    no e = absurd (never e)
+      where
+        never : {c : ℕ} → 0 ≡ suc c → ⊥
+        never e = omega arith
+
+    on : (a b c d e : Bool) → 0 ≡ numberOf (firstOf (unless a 13 ∷ unless b 10 ∷ unless c 11 ∷ unless d 12 ∷ unless e 14 ∷ [])) → firstOf (unless a 13 ∷ unless b 10 ∷ unless c 11 ∷ unless d 12 ∷ unless e 14 ∷ []) ≡ none
+    on true true true true true h = refl
+    on true true true true false h = no {c = 13} h
+    on true true true false e h = no {c = 11} h
+    on true true false d e h = no {c = 10} h
+    on true false c d e h = no {c = 9} h
+    on false b c d e h = no {c = 12} h

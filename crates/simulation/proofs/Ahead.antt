@@ -1,0 +1,199 @@
+-- The tests ahead of a run, as the entry makes them one after the other.
+use mathlib.Core.Path.{_≡_, refl, sym, ap, _∙_, subst}
+use mathlib.Core.Bool.{Bool, true, false, cond, _&&_}
+use mathlib.Core.List.{List, [], _∷_}
+use mathlib.Core.Option.{Option, some, none}
+use Prim.Native.Nat.{ℕ, suc, _+_, _≤_, _<_}
+use native.Mathlib.Nat.{le-trans}
+use native.Mathlib.Omega.{arith}
+use lib.Dec.{T, leb, eqb, eqb→eq, leb→le}
+use lib.ListN.{length, getD, take, length-take}
+use lib.Seq.{take-length}
+use lib.Ieee.{Float, nan}
+use borrow.Author.Tests.{lt-ltb, le-leb}
+use Rattle.binary64.specs.Doubles.{plusZero, nonnegative}
+use Rattle.binary64.specs.Lists.{all, amountsPass}
+use Rattle.refusal.specs.Numbers.{refusalNumber}
+use Rattle.refusal.specs.declared.Refusal.{Refusal}
+use Rattle.refusal.specs.Result as R
+use Rattle.matrix.specs.Matrix.{cell, tabulate}
+use Rattle.matrix.proofs.Filled.{tabulate-at, tabulate-length}
+use Rattle.linear_pk.specs.declared.kernel.LinearPk.{LinearPk}
+use Rattle.linear_pk.specs.declared.bind.BoundLinearPk.{BoundLinearPk}
+use Rattle.linear_pk.specs.LinearPk.{paddedCell, padded, stateCount, counted, ratesFinite, sound, bind}
+use Rattle.events.proofs.Packing.{tabulate-take}
+use Rattle.protocol.specs.declared.Event.{Event}
+use Rattle.protocol.specs.declared.Window.{Window}
+use Rattle.protocol.specs.First.{unless, firstOf}
+use Rattle.protocol.specs.Prepare.{reckoned, prepare}
+use Rattle.protocol.specs.Execute.{Outcome, runOf}
+use Rattle.protocol.specs.Entry.{mostEvents, mostSamples, Room, roomFor, ahead, simulate, replyOf, timesAtExit, sidesAtExit, valuesAtExit}
+use Rattle.protocol.proofs.EntryLaws.{simulate-runs, simulate-refuses}
+use Rattle.protocol.proofs.ListLaws.{both}
+use Rattle.simulation.specs.KernelRun.{propagatorOf}
+use Rattle.preparation.specs.Preparation.{ownNumber, numberOf}
+use Rattle.simulation.specs.Entries.{simulateEntry, runReply}
+use Rattle.simulation.specs.declared.RunReply.the-variants.{Refused}
+use Rattle.preparation.proofs.Tests.{prepare-passes}
+
+-- ---- a refusal: its number, and slices as they were
+pub refuses : (r : Refusal) {o : R.Result Outcome} (rows n : ℕ) (times : List Float) (sides : List ℕ) (values : List Float) → o ≡ R.refused (refusalNumber r)
+    → (runReply (Refused r) ≡ replyOf o) × ((times ≡ timesAtExit rows o times) × ((sides ≡ sidesAtExit rows o sides) × (values ≡ valuesAtExit rows n o values)))
+refuses r rows n times sides values e = (
+  sym (ap replyOf e),
+  (
+    sym (ap (λ (x : R.Result Outcome). timesAtExit rows x times) e),
+    (sym (ap (λ (x : R.Result Outcome). sidesAtExit rows x sides) e), sym (ap (λ (x : R.Result Outcome). valuesAtExit rows n x values) e)),
+  ),
+)
+
+-- ---- the amounts of a bound kernel
+pub bound-front : (n : ℕ) (x : List Float) → n ≤ 4 → length x ≡ n → take n (padded 4 x) ≡ x
+unfolding padded
+bound-front n x h e =
+    sym (tabulate-take (λ (k : ℕ). getD x k nan) nan n (tabulate 4 (paddedCell x)) (omega (arith, tabulate-length (paddedCell x) 4)) (λ (k : ℕ) (l : k < n). held k l))
+    ∙ tabulate-take (λ (k : ℕ). getD x k nan) nan n x (omega arith) (λ (k : ℕ) (l : k < n). refl)
+    ∙ ap (λ (j : ℕ). take j x) (sym e) ∙ take-length x
+  where
+    held : (k : ℕ) → k < n → getD x k nan ≡ getD (tabulate 4 (paddedCell x)) k nan
+    held k l = sym (tabulate-at (paddedCell x) nan 4 k (omega arith) ∙ ap (λ (b : Bool). cond b (cell x k) plusZero) (lt-ltb k (length x) (omega arith)))
+
+-- ---- test by test
+take-most : {A : Type 0} (n : ℕ) (xs : List A) → length (take n xs) ≤ n
+take-most n xs = omega (arith, length-take n xs)
+
+not-done : {A : Type 0} {b : BoundLinearPk} {c : ℕ} → R.done b ≡ R.refused c → A
+not-done q = absurd (no q)
+  where
+    no : {b : BoundLinearPk} {c : ℕ} → R.done b ≡ R.refused c → ⊥
+    no q = let z : _≡_ {A = ℕ} 0 1 = cc in omega arith
+
+abbrev boundOf : LinearPk → List Float → BoundLinearPk
+boundOf k x = record { kernel = k; initial = padded 4 x }
+
+-- what `bind` refuses: the kernel's own number, or 3
+bind-refuses : (k : LinearPk) (x : List Float) (os : List (Option ℕ)) {c : ℕ} → bind k x ≡ R.refused c → firstOf (ownNumber (sound k) ∷ unless (amountsPass (stateCount k) x) 3 ∷ os) ≡ some c
+unfolding bind
+bind-refuses k x os = on (counted k)
+  where
+    same : {j c : ℕ} → _≡_ {A = R.Result BoundLinearPk} (R.refused j) (R.refused c) → j ≡ c
+    same q = cc
+
+    amounts : (b : Bool) {c : ℕ} → R.unless b 3 (boundOf k x) ≡ R.refused c → firstOf (none ∷ unless b 3 ∷ os) ≡ some c
+    amounts true q = not-done q
+    amounts false q = ap some (same q)
+
+    rates : (b : Bool) {c : ℕ} → R.andThen (R.unless b 2 k) (λ (j : LinearPk). R.unless (amountsPass (stateCount j) x) 3 (boundOf j x)) ≡ R.refused c
+        → firstOf (ownNumber (R.unless b 2 k) ∷ unless (amountsPass (stateCount k) x) 3 ∷ os) ≡ some c
+    rates true q = amounts (amountsPass (stateCount k) x) q
+    rates false q = ap some (same q)
+
+    on : (a : Bool) {c : ℕ} → R.andThen (R.andThen (R.unless a 1 k) (λ (j : LinearPk). R.unless (ratesFinite j) 2 j)) (λ (j : LinearPk). R.unless (amountsPass (stateCount j) x) 3 (boundOf j x)) ≡ R.refused c
+        → firstOf (ownNumber (R.andThen (R.unless a 1 k) (λ (j : LinearPk). R.unless (ratesFinite j) 2 j)) ∷ unless (amountsPass (stateCount k) x) 3 ∷ os) ≡ some c
+    on true q = rates (ratesFinite k) q
+    on false q = ap some (same q)
+
+-- what it takes
+pub record Taken (k : LinearPk) (x : List Float) (b : BoundLinearPk) : Type 0 where
+  pub own : ownNumber (sound k) ≡ none
+  pub amounts : amountsPass (stateCount k) x ≡ true
+  pub initial : b .initial ≡ padded 4 x
+
+pub bind-takes : (k : LinearPk) (x : List Float) {b : BoundLinearPk} → R.done b ≡ bind k x → Taken k x b
+unfolding bind
+bind-takes k x = on (counted k) refl
+  where
+    initial-of : {b d : BoundLinearPk} → R.done b ≡ R.done d → b .initial ≡ d .initial
+    initial-of q = cc
+
+    amounts : (s : Bool) {b : BoundLinearPk} → ownNumber (sound k) ≡ none → amountsPass (stateCount k) x ≡ s → R.done b ≡ R.unless s 3 (boundOf k x) → Taken k x b
+    amounts true o e q = record { own = o; amounts = e; initial = initial-of q }
+    amounts false o e q = not-done q
+
+    rates : (s : Bool) {b : BoundLinearPk} → counted k ≡ true → ratesFinite k ≡ s
+        → R.done b ≡ R.andThen (R.unless s 2 k) (λ (j : LinearPk). R.unless (amountsPass (stateCount j) x) 3 (boundOf j x)) → Taken k x b
+    rates true g e q = amounts (amountsPass (stateCount k) x) (ap (λ (a : Bool). ownNumber (R.andThen (R.unless a 1 k) (λ (j : LinearPk). R.unless (ratesFinite j) 2 j))) g ∙ ap (λ (a : Bool). ownNumber (R.unless a 2 k)) e) refl q
+    rates false g e q = not-done q
+
+    on : (s : Bool) {b : BoundLinearPk} → counted k ≡ s
+        → R.done b ≡ R.andThen (R.andThen (R.unless s 1 k) (λ (j : LinearPk). R.unless (ratesFinite j) 2 j)) (λ (j : LinearPk). R.unless (amountsPass (stateCount j) x) 3 (boundOf j x)) → Taken k x b
+    on true g q = rates (ratesFinite k) g refl q
+    on false g q = not-done q
+
+module _ (k : LinearPk) (a : List Float) (w : Window) (es : List Event) (count : ℕ) (ss : List Float) (cells : Room) where
+  -- the tests behind 3, and those behind 5
+  abbrev pub behindThree : List (Option ℕ)
+  behindThree = prepare (stateCount k) w ss (take count es) ∷ unless (roomFor (reckoned ss (take count es)) (stateCount k) cells) 4 ∷ []
+
+  abbrev pub behindFive : List (Option ℕ)
+  behindFive = ownNumber (sound k) ∷ unless (amountsPass (stateCount k) a) 3 ∷ behindThree
+
+  pub over-count : leb count mostEvents ≡ false → simulateEntry k a w es count ss cells ≡ R.refused 5
+  unfolding simulateEntry
+  over-count h = rw h
+
+  in-count : leb count mostEvents ≡ true → simulateEntry k a w es count ss cells ≡ simulate (propagatorOf k) (ownNumber (sound k)) (stateCount k) w ss (take count es) a cells
+  unfolding simulateEntry
+  in-count h = rw h
+
+  pub over-samples : leb count mostEvents ≡ true → leb (length ss) mostSamples ≡ false → simulateEntry k a w es count ss cells ≡ R.refused 5
+  unfolding ahead
+  over-samples h g =
+      in-count h
+      ∙ simulate-refuses (propagatorOf k) (ownNumber (sound k)) (stateCount k) w ss (take count es) a cells 5
+      (ap (λ (b : Bool). firstOf (unless (leb (length (take count es)) mostEvents && b) 5 ∷ behindFive)) g
+      ∙ on (leb (length (take count es)) mostEvents) behindFive)
+    where
+      on : (b : Bool) (os : List (Option ℕ)) → firstOf (unless (b && false) 5 ∷ os) ≡ some 5
+      on true os = refl
+      on false os = refl
+
+  module _ (h : leb count mostEvents ≡ true) (g : leb (length ss) mostSamples ≡ true) where
+    behind-five : ahead (ownNumber (sound k)) (stateCount k) w ss (take count es) a cells
+        ≡ firstOf behindFive
+    unfolding ahead
+    behind-five = rw (le-leb (length (take count es)) mostEvents (le-trans (take-most count es) (leb→le count mostEvents (subst T (sym h) tt))), g)
+
+    pub bind-refused : (c : ℕ) → bind k a ≡ R.refused c → simulateEntry k a w es count ss cells ≡ R.refused c
+    bind-refused c e =
+        in-count h ∙ simulate-refuses (propagatorOf k) (ownNumber (sound k)) (stateCount k) w ss (take count es) a cells c (behind-five ∙ bind-refuses k a behindThree e)
+
+    module _ {b : BoundLinearPk} (t : Taken k a b) where
+      behind-three : ahead (ownNumber (sound k)) (stateCount k) w ss (take count es) a cells
+          ≡ firstOf behindThree
+      behind-three = behind-five ∙ rw (t .own, t .amounts)
+
+      pub tests-refuse : (c : ℕ) → 1 ≤ c → c ≡ numberOf (firstOf behindThree)
+          → simulateEntry k a w es count ss cells ≡ R.refused c
+      tests-refuse c l e =
+          in-count h ∙ simulate-refuses (propagatorOf k) (ownNumber (sound k)) (stateCount k) w ss (take count es) a cells c (behind-three ∙ on _ l e)
+        where
+          on : (o : Option ℕ) {c : ℕ} → 1 ≤ c → c ≡ numberOf o → o ≡ some c
+          on none l e = absurd (no l e)
+            where
+              no : {c : ℕ} → 1 ≤ c → c ≡ 0 → ⊥
+              no l e = omega arith
+          on (some j) l e = ap some (sym e)
+
+      pub tests-pass : 0 ≡ numberOf (firstOf behindThree)
+          → ahead (ownNumber (sound k)) (stateCount k) w ss (take count es) a cells ≡ none
+      tests-pass e =
+          behind-three ∙ on (prepare (stateCount k) w ss (take count es)) (roomFor (reckoned ss (take count es)) (stateCount k) cells) (prepare-passes (stateCount k) w ss (take count es)) e
+        where
+          on : (o : Option ℕ) (r : Bool) → (0 ≡ numberOf o → o ≡ none) → 0 ≡ numberOf (firstOf (o ∷ unless r 4 ∷ [])) → firstOf (o ∷ unless r 4 ∷ []) ≡ none
+          on none true f q = refl
+          on none false f q = absurd (no q)
+            where
+              no : _≡_ {A = ℕ} 0 4 → ⊥
+              no q = omega arith
+          on (some j) r f q = f q
+
+      pub runs : 0 ≡ numberOf (firstOf behindThree)
+          → simulateEntry k a w es count ss cells ≡ R.done (runOf (propagatorOf k) (stateCount k) w ss (take count es) a)
+      runs e = in-count h ∙ simulate-runs (propagatorOf k) (ownNumber (sound k)) (stateCount k) w ss (take count es) a cells (tests-pass e)
+
+      -- the amounts that it is given
+      pub initial-front : stateCount k ≤ 4 → take (stateCount k) (b .initial) ≡ a
+      initial-front l =
+          ap (take (stateCount k)) (t .initial)
+          ∙ bound-front (stateCount k) a l (eqb→eq (length a) (stateCount k) (both (eqb (length a) (stateCount k)) (all nonnegative a) (subst T (sym (t .amounts)) tt) .0))
