@@ -19,7 +19,7 @@ use Rattle.protocol.specs.declared.Window.{Window}
 use Rattle.refusal.specs.Result.{Result, refused, done}
 use Rattle.protocol.specs.Events.{target, isReset, isBolus, running, marks}
 use Rattle.protocol.specs.Prepare.{prepare}
-use Rattle.protocol.specs.Schedule.{flows, rateOf}
+use Rattle.protocol.specs.Schedule.{flows, rateOf, summed}
 use Rattle.protocol.specs.Execute.{Propagator, Row, Side, Pre, Post, Reading, Outcome, go, stop, dosed, runOf}
 use Rattle.protocol.specs.Entry.{Room, Reply, simulate, replyOf, timesAtExit, sidesAtExit, valuesAtExit}
 use Rattle.protocol.specs.PlainRun.{oneOf, argumentsPass, KernelLaws, Prepared, PlainRun}
@@ -50,6 +50,9 @@ four = fin false 1 (pos 2)
 
 abbrev eight : Float
 eight = fin false 1 (pos 3)
+
+abbrev huge : Float
+huge = fin false 1 (pos 53)
 
 -- the largest double
 abbrev most : Float
@@ -103,6 +106,11 @@ cut-infusion : rowsOf (runOf drift 1 (window plusZero four) (one ∷ one ∷ [])
     ≡ row plusZero Pre three ∷ row plusZero Post three ∷ row one Reading four ∷ row two Pre (fin false 5 (pos 0)) ∷ row two Post one ∷ row four Pre one ∷ row four Post one ∷ []
 unfolding opened drift
 cut-infusion = refl
+
+-- rates of 2^53, 1 and 1 add to 2^53 in list order, and from the end they would add to 2^53 + 2
+in-list-order : summed 1 plusZero (Infusion plusZero 0 huge one ∷ Infusion plusZero 0 one one ∷ Infusion plusZero 0 one one ∷ []) (false ∷ false ∷ false ∷ []) ≡ huge ∷ []
+unfolding opened summed
+in-list-order = refl
 
 -- a stopping reset at an infusion's own instant leaves it running, and so does one on another target
 still-running : rowsOf (runOf drift 2 (window plusZero two) [] (Infusion plusZero 0 two two ∷ Reset plusZero 0 one 0 true ∷ Reset one 1 one 0 true ∷ []) (three ∷ three ∷ []))
