@@ -1,16 +1,24 @@
-//! Times `advance` of the C interface beside the Rust's, or measures the stack
-//! that each C entry uses.
+//! Times `advance` and whole runs of the C interface beside the Rust's, or
+//! measures the stack that each C entry uses.
 //!
 //!     bench [N..]      a table of medians, for these numbers of states (default: 1 2 3 4)
+//!     bench --runs     tables of medians of whole runs
 //!     bench --stack    the stack of each entry
+mod bench_runs;
+#[allow(dead_code)]
+mod draw;
 #[allow(dead_code)]
 mod entries;
 #[allow(dead_code)]
 mod rule;
+#[allow(dead_code)]
+mod run_entry;
 
+use bench_runs::Simulate;
 use entries::*;
 use qspquest_modeling::linear_pk::LinearPk;
 use rule::Kernel;
+use run_entry::linear_pk_simulate;
 use std::hint::black_box;
 use std::time::Instant;
 
@@ -235,6 +243,35 @@ extern "C" fn no_slices(
     0
 }
 
+extern "C" fn no_simulate(
+    _: *const f64,
+    _: usize,
+    _: *const f64,
+    _: usize,
+    _: f64,
+    _: f64,
+    _: f64,
+    _: f64,
+    _: u64,
+    _: usize,
+    _: usize,
+    _: *const u64,
+    _: usize,
+    _: *const f64,
+    _: usize,
+    _: *mut f64,
+    _: usize,
+    _: *mut u8,
+    _: usize,
+    _: *mut f64,
+    _: usize,
+    _: *mut f64,
+    _: *mut usize,
+    _: *mut u64,
+) -> u64 {
+    0
+}
+
 type New = unsafe extern "C" fn(
     f64,
     *const f64,
@@ -266,7 +303,8 @@ fn depth<F: Copy>(empty: F, entry: F, call: impl Fn(F)) -> usize {
     lowest(empty).saturating_sub(lowest(entry))
 }
 
-/// Each entry on its longest path: 4 states, and 60 halvings in `advance`.
+/// Each entry on its longest path: 4 states, 60 halvings in `advance`, and in a
+/// run 192 events and 256 samples as well.
 fn stack() {
     // Rates of a few, so that 2^57 takes 60 halvings.
     let (volumes, exchange) = ([1.0, 2.0, 4.0], [1.0, 1.0]);
@@ -357,10 +395,27 @@ fn stack() {
         assert_eq!(black_box(reply), 0);
     });
     println!("| linear_pk_bind | {bytes} |");
+    let mut run = bench_runs::even(192, 256);
+    let read = Kernel::read(&run.cells).expect("a kernel");
+    run.end = duration_for(&read, &amounts, &rates, 60);
+    let cells = std::cell::RefCell::new(bench_runs::Cells::new(&run));
+    let bytes = depth(
+        no_simulate as Simulate,
+        linear_pk_simulate as Simulate,
+        |entry| {
+            let reply = bench_runs::call(entry, &run, &mut cells.borrow_mut());
+            assert_eq!(black_box(reply), 0);
+        },
+    );
+    println!("| linear_pk_simulate | {bytes} |");
 }
 
 fn main() {
     let arguments: Vec<String> = std::env::args().skip(1).collect();
+    if arguments == ["--runs"] {
+        bench_runs::tables();
+        return;
+    }
     if arguments == ["--stack"] {
         // A stack with room for the paint.
         let thread = std::thread::Builder::new()
@@ -374,7 +429,7 @@ fn main() {
         .filter_map(|word| word.parse().ok())
         .collect();
     if sizes.len() != arguments.len() || sizes.iter().any(|n| !(1..=4).contains(n)) {
-        eprintln!("bench [N..] with N from 1 to 4, or bench --stack");
+        eprintln!("bench [N..] with N from 1 to 4, bench --runs, or bench --stack");
         std::process::exit(2);
     }
     if sizes.is_empty() {

@@ -1,4 +1,6 @@
 // The C interface: doubles, lent slices and 01's numbers. include/linear_pk.h says each function's contract in plain words.
+mod run;
+
 use linear_pk::Absorption;
 use linear_pk::Bound;
 use linear_pk::BoundLinearPk;
@@ -130,7 +132,7 @@ fn rates_at(cells: &[f64]) -> [f64; 16]
 }
 
 // The kernel that cells hold; one of no volumes where they hold none.
-fn kernel_at(cells: &[f64]) -> LinearPk
+pub fn kernel_at(cells: &[f64]) -> LinearPk
     ensures { λ r. ⌜ r ≡ kernelAt (now (cells .entry)) ⌝ }
 {
     if cells.len() < KERNEL {

@@ -17,6 +17,7 @@ use Rattle.protocol.specs.declared.Window.{Window}
 use Rattle.preparation.specs.Preparation.{ownNumber}
 use Rattle.simulation.specs.KernelRun.{propagatorOf}
 use Rattle.simulation.specs.declared.RunReply.{RunReply}
+use Rattle.simulation.specs.declared.Report.{Report}
 use Rattle.simulation.specs.declared.RunReply.the-variants.{Refused, Stopped, Reached}
 
 -- how many cells the lent slices have
@@ -33,3 +34,7 @@ abbrev pub runReply : RunReply → Reply
 runReply (Refused r) = record { number = refusalNumber r; time = plusZero; rows = 0; advances = 0 }
 runReply (Stopped c t m) = record { number = c; time = t; rows = 0; advances = m }
 runReply (Reached r m) = record { number = 0; time = plusZero; rows = r; advances = m }
+
+-- as numbers
+abbrev pub reported : Report → Reply
+reported r = record { number = r .number; time = r .time; rows = r .rows; advances = r .advances }

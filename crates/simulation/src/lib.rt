@@ -24,7 +24,7 @@ ghost use Rattle.protocol.specs.Entry.{roomFor, ahead, replyOf, laid, timesAtEx
 ghost use Rattle.rows.specs.Written.{cells, Room};
 ghost use Rattle.simulation.specs.KernelRun.{propagatorOf};
 ghost use Rattle.preparation.specs.Preparation.{ownNumber, numberOf};
-ghost use Rattle.simulation.specs.Entries.{room, simulateEntry, runReply};
+ghost use Rattle.simulation.specs.Entries.{room, simulateEntry, runReply, reported};
 
 // The most boundaries: start, end, two for each event.
 const BOUNDARIES: usize = 386;
@@ -44,6 +44,43 @@ pub enum RunReply {
         rows: usize,
         advances: u64,
     },
+}
+
+// A reply as numbers; 0 is the number of a run that reached its end.
+pub struct Report {
+    pub number: u64,
+    pub time: f64,
+    pub rows: usize,
+    pub advances: u64,
+}
+
+pub fn report_of(reply: RunReply) -> Report
+    ensures { λ r. ⌜ reported r ≡ runReply reply ⌝ }
+{
+    match reply {
+        RunReply::Refused(refusal) => Report {
+            number: refusal::number(Reply::Refused(refusal)),
+            time: 0.0,
+            rows: 0,
+            advances: 0,
+        },
+        RunReply::Stopped {
+            number,
+            time,
+            advances,
+        } => Report {
+            number,
+            time,
+            rows: 0,
+            advances,
+        },
+        RunReply::Reached { rows, advances } => Report {
+            number: 0,
+            time: 0.0,
+            rows,
+            advances,
+        },
+    }
 }
 
 // Zeros over the reckoned rows, of n amounts each.
