@@ -1,9 +1,10 @@
 /*
- * The kernel of a linear patient: mammillary kinetics with one to three
- * compartments and an optional depot.
+ * A linear patient: mammillary kinetics with one to three compartments and an
+ * optional depot, its kernel and runs over lists of doses and resets.
  *
  * Build the archive with `rt staticlib capi` and link target/staticlib/libcapi.a.
- * It needs no heap, no other library, and at most 4 KiB of stack.
+ * It needs no heap and no other library; linear_pk_simulate takes 33 KiB of
+ * stack, every other function 4 KiB at most.
  *
  * States are the depot (if there is one), central, then the peripherals:
  * n is 1 to 4. Amounts, volumes and times are in one coherent set of units.
@@ -17,12 +18,23 @@
  *    2  a rate that is not finite
  *    3  a wrong count, or a value that is not finite or below 0
  *    4  an output slice that is too short
+ *    5  more than 192 events or 256 samples
+ *   10  a window: ends not finite or not increasing, rtol or atol not finite or not above 0
+ *   11  a sample not finite or outside the window
+ *   12  an event: see linear_pk_simulate
+ *   13  more events than their budget
+ *   14  more values than their budget
  *   20  the norm of the interval's matrix is not finite
  *   21  more than 60 halvings
  *   22  exponential, rate*duration or amount not finite, or an amount below 0
  *   23  a concentration that is not finite
+ *   30  one advance beyond the budget of propagations
+ *   31  a state that is not finite or below 0
+ *   32  summed rates that are not finite
+ *   40  words that are no events
  * Where several hold, the first in the order that each function lists is given.
- * A refusal leaves every slice as it was. Cells behind an answer never change.
+ * A refusal leaves every slice as it was, but for a run that stopped once begun,
+ * which leaves zeros. Cells behind an answer never change.
  */
 #ifndef LINEAR_PK_H
 #define LINEAR_PK_H
@@ -78,6 +90,47 @@ uint64_t linear_pk_concentrations(const double *kernel, size_t kernel_len,
 uint64_t linear_pk_bind(const double *kernel, size_t kernel_len,
                         const double *initial, size_t initial_len,
                         double *bound, size_t bound_len);
+
+/* The words of an event: kind (0 bolus, 1 infusion, 2 reset); the time's bits;
+ * target; the bits of the amount or value; the duration's bits or a reset's
+ * order, at most 65535; whether a reset stops the infusions that run on its
+ * target, 0 or 1. Words that a kind lacks may hold anything. */
+#define LINEAR_PK_EVENT_WORDS 6
+
+/* The sides of rows: before the resets and boluses at a time, and after them or
+ * at a sample. A row that is not reached has 0. */
+#define LINEAR_PK_PRE 1
+#define LINEAR_PK_POST 2
+
+/* A run from start to end over a list of events, from n amounts.
+ *
+ * The budgets: propagations is the most advances, event_budget the most events,
+ * output_budget the most values of the reckoned rows, R = 4 * events + samples + 2
+ * rows of n values. An event's time is finite and in the window, ends included,
+ * its target below n; a dose's amount is finite and at least 0; an infusion's
+ * duration is finite and above 0, it ends after its start and in the window, and
+ * amount by duration is finite; a reset's value is finite, and no two resets have
+ * the same time and order, whatever their targets. Samples come in any order.
+ *
+ * Replies 0, or the first number that holds of 40, 5, 1, 2, 3, 13, 10, 11, 12,
+ * 14, 4 ahead of the run, or 3 (a time less a boundary's overflows), 20, 21, 22,
+ * 30, 31, 32 in it. times and sides have R cells or more, values R * n or more.
+ *
+ * On 0 the first *rows cells of times and sides are the rows, the amounts of row
+ * k stand in values from place k * n on, and the rest of the R rows is zero. A
+ * run that stopped leaves its R rows zero and gives the time of the row or
+ * boundary where it stopped (+0 for 32) and the advances made, the refused one
+ * counted. Else *time is +0 and *rows 0, and any other refusal has *advances 0. */
+uint64_t linear_pk_simulate(const double *kernel, size_t kernel_len,
+                            const double *amounts, size_t amounts_len,
+                            double start, double end, double rtol, double atol,
+                            uint64_t propagations, size_t event_budget, size_t output_budget,
+                            const uint64_t *events, size_t events_len,
+                            const double *samples, size_t samples_len,
+                            double *times, size_t times_len,
+                            uint8_t *sides, size_t sides_len,
+                            double *values, size_t values_len,
+                            double *time, size_t *rows, uint64_t *advances);
 
 #ifdef __cplusplus
 }

@@ -19,13 +19,15 @@ const BATCH: f64 = 200_000.0;
 /// each advance takes 2 halvings.
 const STEP: f64 = 0.25;
 
-/// Three compartments and a depot, with no event and no sample.
-pub fn empty() -> Run {
+/// One compartment, or with 4 states three and a depot; no event and no sample.
+pub fn empty(states: usize) -> Run {
+    let whole = states == 4;
+    let compartments = if whole { 3 } else { 1 };
     let given = Parameters {
         clearance: 4.2,
-        volumes: vec![12.0, 25.5, 7.25],
-        exchange: vec![3.5, 1.75],
-        depot: true,
+        volumes: [12.0, 25.5, 7.25][..compartments].to_vec(),
+        exchange: [3.5, 1.75][..compartments - 1].to_vec(),
+        depot: whole,
         absorption: 0.9,
     };
     let (rust, cells) = made(&given).expect("a model");
@@ -33,7 +35,7 @@ pub fn empty() -> Run {
         given,
         rust: Some(rust),
         cells: cells.to_vec(),
-        amounts: vec![100.0, 20.0, 5.0, 1.5],
+        amounts: [100.0, 20.0, 5.0, 1.5][..states].to_vec(),
         start: 0.0,
         end: STEP,
         rtol: 1e-6,
@@ -63,8 +65,9 @@ pub fn with_room(mut run: Run) -> Run {
 
 /// A day of boluses into the depot, infusions into central and resets in turn,
 /// spread evenly, and so are the samples.
-fn mixed(events: usize, samples: usize) -> Run {
-    let mut run = empty();
+fn mixed(states: usize, events: usize, samples: usize) -> Run {
+    let mut run = empty(states);
+    let within = |target: u64| target.min(states as u64 - 1);
     run.end = 24.0;
     for i in 0..events {
         let time = 24.0 * (i as f64 + 0.5) / events as f64;
@@ -75,16 +78,23 @@ fn mixed(events: usize, samples: usize) -> Run {
             0 => [BOLUS, time.to_bits(), 0, amount.to_bits(), 0, 0],
             1 if time + duration <= run.end => {
                 let duration = duration.to_bits();
-                [INFUSION, time.to_bits(), 1, amount.to_bits(), duration, 0]
+                [
+                    INFUSION,
+                    time.to_bits(),
+                    within(1),
+                    amount.to_bits(),
+                    duration,
+                    0,
+                ]
             }
-            1 => [BOLUS, time.to_bits(), 1, amount.to_bits(), 0, 0],
+            1 => [BOLUS, time.to_bits(), within(1), amount.to_bits(), 0, 0],
             _ => {
                 let (target, stops) = if i % 12 == 2 { (1, 1) } else { (2, 0) };
                 let order = (i % 5) as u64;
                 [
                     RESET,
                     time.to_bits(),
-                    target,
+                    within(target),
                     2.0_f64.to_bits(),
                     order,
                     stops,
@@ -102,7 +112,7 @@ fn mixed(events: usize, samples: usize) -> Run {
 /// Infusions one behind the other with a gap between, so that each boundary is
 /// a step from the next; the samples stand inside the intervals in turn.
 pub fn even(infusions: usize, samples: usize) -> Run {
-    let mut run = empty();
+    let mut run = empty(4);
     for i in 0..infusions {
         let time = STEP * (2 * i + 1) as f64;
         let words = [
@@ -315,13 +325,19 @@ fn two_halvings(run: &Run, least: f64) {
 }
 
 pub fn tables() {
-    println!("a run of 4 states: boluses, infusions and resets spread over 24 hours");
+    println!("boluses, infusions and resets spread over 24 hours");
     println!();
-    println!("| events | samples | advances | Rust us | ours us | ours/Rust |");
-    println!("|---|---|---|---|---|---|");
-    let counts = [8, 64, 192].map(|events| [0, 256].map(|samples| mixed(events, samples)));
-    let mut points = measured(counts.into_iter().flatten().collect());
-    points.iter_mut().for_each(|point| point.print(false));
+    println!("| n | events | samples | advances | Rust us | ours us | ours/Rust |");
+    println!("|---|---|---|---|---|---|---|");
+    let counts = [(8, 0), (8, 256), (64, 0), (64, 256), (192, 0), (192, 256)];
+    for states in [1, 4] {
+        let run = |(events, samples)| mixed(states, events, samples);
+        let mut points = measured(counts.map(run).to_vec());
+        for point in &mut points {
+            print!("| {states} ");
+            point.print(false);
+        }
+    }
 
     println!();
     println!("time by advances: 4 states, 2 halvings in every advance");

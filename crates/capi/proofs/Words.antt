@@ -56,9 +56,9 @@ module _ (k : LinearPk) (a : List Float) (w : Window) (ws : List ℕ) (ss : List
   many e = (
     rw e,
     fits-run
-    ∙ simulate-refuses (propagatorOf k) (ownNumber (sound k)) (stateCount k) w ss (eventsOf ws) a cells 5
-    (ap (λ (b : Bool). firstOf (unless (b && leb (length ss) mostSamples) 5 ∷ ownNumber (sound k) ∷ unless (amountsPass (stateCount k) a) 3 ∷ prepare (stateCount k) w ss (eventsOf ws) ∷ unless (roomFor (reckoned ss (eventsOf ws)) (stateCount k) cells) 4 ∷ []))
-    (ap (λ (n : ℕ). leb n mostEvents) (tabulate-length (eventOf ws) (eventCount ws)) ∙ e)),
+        ∙ simulate-refuses (propagatorOf k) (ownNumber (sound k)) (stateCount k) w ss (eventsOf ws) a cells 5
+        (ap (λ (b : Bool). firstOf (unless (b && leb (length ss) mostSamples) 5 ∷ ownNumber (sound k) ∷ unless (amountsPass (stateCount k) a) 3 ∷ prepare (stateCount k) w ss (eventsOf ws) ∷ unless (roomFor (reckoned ss (eventsOf ws)) (stateCount k) cells) 4 ∷ []))
+        (ap (λ (n : ℕ). leb n mostEvents) (tabulate-length (eventOf ws) (eventCount ws)) ∙ e)),
   )
 
   pub words-entry : entry ≡ simulateWords k a w ws ss cells

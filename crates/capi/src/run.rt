@@ -46,9 +46,17 @@ fn simulate_words(
     }
     let list = layout::events_of(events);
     let count = events.len() / WORDS;
-    simulation::report_of(
-        simulation::simulate(kernel, amounts, window, list, count, samples, times, sides, values),
-    )
+    simulation::report_of(simulation::simulate(
+        kernel,
+        amounts,
+        window,
+        list,
+        count,
+        samples,
+        times,
+        sides,
+        values,
+    ))
 }
 
 #[no_mangle]

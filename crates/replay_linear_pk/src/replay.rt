@@ -1,13 +1,14 @@
 // One line: a call of the library, and the answer that it must give.
-use crate::text;
-use crate::text::ROOM;
-use linear_pk::Absorption;
 use linear_pk::LinearPk;
 use linear_pk::Made;
+use stored_answers::Outcome;
+use stored_answers::ROOM;
+use stored_answers::count;
+use stored_answers::doubles;
+use stored_answers::same;
 ghost use mathlib.Core.Path.{_≡_};
-ghost use Prim.Native.Nat.{_+_, _≤_, _<_};
-ghost use lib.ListN.{length, take};
-ghost use Rattle.replay_linear_pk.specs.Doubles.{sameBits};
+ghost use Prim.Native.Nat.{_≤_};
+ghost use lib.ListN.{length};
 
 // Places of a line's numbers. A list is its count and then its values.
 const NUMBERS: usize = 41;
@@ -22,8 +23,6 @@ const EXCHANGE: usize = 7;
 
 const DEPOT: usize = 12;
 
-const ABSORPTION: usize = 13;
-
 const AMOUNTS: usize = 14;
 
 const RATES: usize = 20;
@@ -36,50 +35,8 @@ const REPLY: usize = 28;
 
 const EXPECTED: usize = 29;
 
-// Cells of an answer that a line keeps, and the longest list of arguments.
+// Cells of an answer that a line keeps.
 const CELLS: usize = 11;
-
-const VALUES: usize = 5;
-
-// Whether x has this pattern; all NaNs count as one.
-fn same(x: f64, bits: u64) -> bool
-    ensures { λ r. ⌜ r ≡ sameBits x bits ⌝ }
-{
-    if x != x {
-        return binary64::is_nan_bits(bits);
-    }
-    f64::to_bits(x) == bits
-}
-
-// The count at a place, held to the length of the list that it counts in.
-fn count(words: &[u64; ROOM], at: usize, list: &[f64]) -> usize
-    requires { ⌜ at < 64 ⌝ }
-    ensures { λ r. ⌜ (r ≤ length (now (list .entry))) × (r ≡ length (take r (now (list .entry)))) ⌝ }
-{
-    let n = words[at] as usize;
-    if n < list.len() { n } else { list.len() }
-}
-
-// The doubles of the list at a place. Those behind its count mean nothing.
-fn doubles(words: &[u64; ROOM], at: usize) -> [f64; VALUES]
-    requires { ⌜ at + 5 < 64 ⌝ }
-    ensures { λ r. ⌜ 5 ≡ length r ⌝ }
-{
-    let mut list = [0.0f64; VALUES];
-    for i in 0..VALUES {
-        list[i] = binary64::of_bits(words[at + 1 + i]);
-    }
-    list
-}
-
-// The absorption of a line's parameters.
-fn absorption(words: &[u64; ROOM]) -> Absorption {
-    if words[DEPOT] == 0 {
-        Absorption::Absent
-    } else {
-        Absorption::FirstOrder(binary64::of_bits(words[ABSORPTION]))
-    }
-}
 
 // Whether the entry, the counts and the depot are in range.
 fn in_range(words: &[u64; ROOM]) -> bool {
@@ -96,16 +53,7 @@ fn in_range(words: &[u64; ROOM]) -> bool {
 
 // The kernel of a line's parameters, or the refusal.
 fn made(words: &[u64; ROOM]) -> Made {
-    let volumes = doubles(words, VOLUMES);
-    let exchange = doubles(words, EXCHANGE);
-    let v = count(words, VOLUMES, &volumes);
-    let e = count(words, EXCHANGE, &exchange);
-    LinearPk::new(
-        binary64::of_bits(words[CLEARANCE]),
-        &volumes[..v],
-        &exchange[..e],
-        absorption(words),
-    )
+    stored_answers::made(words, CLEARANCE, EXCHANGE, DEPOT)
 }
 
 // What the library answers: the reply's number, and the cells from the front.
@@ -235,27 +183,28 @@ fn agrees(words: &[u64; ROOM], answer: Answer) -> bool
     ok
 }
 
-// What a line came to.
-pub enum Outcome {
-    Malformed,
-    Called { entry: u64, reply: u64, same: bool },
-}
-
-// Makes the call of a line and compares.
-pub fn replay(line: &[u8]) -> Outcome {
-    let numbers = text::numbers(line);
-    let words = numbers.words;
-    if numbers.count != NUMBERS {
+// Makes the call of a line's numbers and compares.
+fn compared(words: &[u64; ROOM], count: usize) -> Outcome {
+    if count != NUMBERS {
         return Outcome::Malformed;
     }
-    if !in_range(&words) {
+    if !in_range(words) {
         return Outcome::Malformed;
     }
-    let answer = called(&words);
-    let same = agrees(&words, answer);
+    let answer = called(words);
+    let same = agrees(words, answer);
     Outcome::Called {
         entry: words[ENTRY],
         reply: answer.reply,
         same,
     }
+}
+
+pub fn replay(line: &[u8]) -> Outcome {
+    if stored_answers::is_comment(line) {
+        return Outcome::Comment;
+    }
+    let mut words = [0u64; ROOM];
+    let count = stored_answers::numbers(line, &mut words);
+    compared(&words, count)
 }
