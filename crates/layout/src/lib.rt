@@ -5,7 +5,7 @@ ghost use mathlib.Core.Path.{_≡_};
 ghost use Prim.Native.Nat.{_+_, _*_, _≤_, _<_};
 ghost use lib.ListN.{length};
 ghost use Rattle.matrix.specs.Matrix.{tabulate};
-ghost use Rattle.layout.specs.Layout.{wordAt, doubleAt, eventFits, eventsFit, eventOf, noEvent, eventOrNone};
+ghost use Rattle.layout.specs.Layout.{wordAt, listedOf, eventFits, eventsFit, eventFrom, eventOf, noEvent, eventOrNone};
 
 // Words of an event.
 const WORDS: usize = 6;
@@ -18,21 +18,22 @@ fn word_at(words: &[u64], i: usize, k: usize) -> u64
     words[WORDS * i + k]
 }
 
-fn double_at(words: &[u64], i: usize, k: usize) -> f64
-    requires { ⌜ (6 * i + 6 ≤ length (now words)) × (k < 6) ⌝ }
-    ensures { λ r. ⌜ r ≡ doubleAt (now (words .entry)) i k ⌝ }
+// Whether a kind, and a reset's order and `stops`, are among the listed values.
+pub fn listed(kind: u64, order: u64, stops: u64) -> bool
+    ensures { λ r. ⌜ r ≡ listedOf kind order stops ⌝ }
 {
-    binary64::of_bits(word_at(words, i, k))
+    (kind <= 1) | ((kind == 2) & ((order <= 65535) & (stops <= 1)))
 }
 
 fn event_fits(words: &[u64], i: usize) -> bool
     requires { ⌜ 6 * i + 6 ≤ length (now words) ⌝ }
     ensures { λ r. ⌜ r ≡ eventFits (now (words .entry)) i ⌝ }
 {
-    let kind = word_at(words, i, 0);
-    let order = word_at(words, i, 4);
-    let stops = word_at(words, i, 5);
-    (kind <= 1) | ((kind == 2) & ((order <= 65535) & (stops <= 1)))
+    listed(
+        word_at(words, i, 0),
+        word_at(words, i, 4),
+        word_at(words, i, 5),
+    )
 }
 
 // Whether the words are whole events, each of listed values.
@@ -47,42 +48,53 @@ pub fn events_fit(words: &[u64]) -> bool
     (words.len() % WORDS == 0) & ok
 }
 
-// Event i, whose words are there. A kind above 2 is read as a reset.
-pub fn event_of(words: &[u64], i: usize) -> Event
-    requires { ⌜ 6 * i + 6 ≤ length (now words) ⌝ }
-    ensures { λ r. ⌜ r ≡ eventOf (now (words .entry)) i ⌝ }
+// The event of six words. A kind above 2 is read as a reset.
+pub fn event_from(kind: u64, time: u64, target: u64, amount: u64, last: u64, stops: u64) -> Event
+    ensures { λ r. ⌜ r ≡ eventFrom kind time target amount last stops ⌝ }
 {
-    let kind = word_at(words, i, 0);
-    let time = double_at(words, i, 1);
-    let target = word_at(words, i, 2) as usize;
-    let amount = double_at(words, i, 3);
+    let at = binary64::of_bits(time);
+    let given = binary64::of_bits(amount);
     if kind == 0 {
         return Event::Bolus {
-            time,
-            target,
-            amount,
+            time: at,
+            target: target as usize,
+            amount: given,
         };
     }
     if kind == 1 {
         return Event::Infusion {
-            time,
-            target,
-            amount,
-            duration: double_at(words, i, 4),
+            time: at,
+            target: target as usize,
+            amount: given,
+            duration: binary64::of_bits(last),
         };
     }
-    let order = (word_at(words, i, 4) % 65536) as u16;
     Event::Reset {
-        time,
-        target,
-        value: amount,
-        order,
-        stops: word_at(words, i, 5) == 1,
+        time: at,
+        target: target as usize,
+        value: given,
+        order: (last % 65536) as u16,
+        stops: stops == 1,
     }
 }
 
+// Event i, whose words are there.
+pub fn event_of(words: &[u64], i: usize) -> Event
+    requires { ⌜ 6 * i + 6 ≤ length (now words) ⌝ }
+    ensures { λ r. ⌜ r ≡ eventOf (now (words .entry)) i ⌝ }
+{
+    event_from(
+        word_at(words, i, 0),
+        word_at(words, i, 1),
+        word_at(words, i, 2),
+        word_at(words, i, 3),
+        word_at(words, i, 4),
+        word_at(words, i, 5),
+    )
+}
+
 // What stands past the last event.
-fn no_event() -> Event
+pub fn no_event() -> Event
     ensures { λ r. ⌜ r ≡ noEvent ⌝ }
 {
     Event::Bolus {

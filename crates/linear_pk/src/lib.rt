@@ -10,5 +10,7 @@ pub use bind::BoundLinearPk;
 pub use kernel::Absorption;
 pub use kernel::LinearPk;
 pub use kernel::Made;
+pub use kernel::Test;
+pub use kernel::all_pass;
 pub use kernel::check;
 pub use kernel::none;

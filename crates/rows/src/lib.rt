@@ -4,6 +4,7 @@ mod clear;
 pub use clear::clear_reals;
 pub use clear::clear_sides;
 use linear_pk::LinearPk;
+use linear_pk::Test;
 use matrix::STATES;
 use refusal::Reply;
 ghost use mathlib.Core.Path.{_≡_};
@@ -241,13 +242,7 @@ fn arrive(
 fn all_finite(values: &[f64]) -> bool
     ensures { λ r. ⌜ r ≡ all finite (now (values .entry)) ⌝ }
 {
-    let mut ok = true;
-    let mut i = 0usize;
-    while i < values.len() {
-        ok = ok & binary64::is_finite(values[i]);
-        i += 1;
-    }
-    ok
+    linear_pk::all_pass(Test::Finite, values)
 }
 
 // From the boundary t to the next boundary u at the summed rates: 32, the readings, the arrival.

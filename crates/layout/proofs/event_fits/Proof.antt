@@ -9,4 +9,4 @@ unfolding eventFits
 returns c = cc
 
 pub event-fits-spec : {M : Type 1} → statement M
-event-fits-spec = tie.close (tie.spec (λ c κs. search needs) (λ c κs. search needs) (λ c κs. search needs) returns)
+event-fits-spec = tie.close (tie.spec (λ c κs. search needs) (λ c κs. search needs) (λ c κs. search needs) (λ c κs. search needs) returns)

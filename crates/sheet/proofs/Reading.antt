@@ -1,0 +1,66 @@
+-- The reader's answer, test by test.
+use mathlib.Core.Path.{_≡_, refl, sym, ap, ap₂, _∙_, subst}
+use mathlib.Core.Bool.{Bool, true, false, _&&_}
+use mathlib.Core.List.{List, [], _∷_}
+use Prim.Native.Nat.{ℕ, _-_, _/_, _≤_}
+use native.Mathlib.Omega.{arith}
+use borrow.Author.Tests.{leb-true}
+use lib.Dec.{T, eqb, leb}
+use lib.ListN.{length}
+use Rattle.refusal.specs.Result.{Result, refused, done, andThen, unless}
+use Rattle.layout.specs.Layout.{eventCount}
+use Rattle.sheet.specs.Sheet.{wordsOf, word, follow, placed, Sheet, sheetOf, bodiesFit, wordsFit, withinLimits, readSheet}
+use Rattle.sheet.specs.Reader.{placesOf, Located}
+use Rattle.sheet.specs.declared.bodies.Places.{Places}
+use Rattle.sheet.proofs.Places.{words-length, located, body-length}
+
+abbrev answer : Bool → Sheet → Result Sheet
+answer fit s = andThen (unless fit 40 s) (λ (x : Sheet). unless (withinLimits x) 5 x)
+
+module _ (bs : List ℕ) where
+  -- the two tests of the head, and that of the bodies
+  by-tests : {a b : Bool} → wordsFit bs && placed (wordsOf bs) ≡ a → bodiesFit (sheetOf (wordsOf bs)) ≡ b → readSheet bs ≡ answer (a && b) (sheetOf (wordsOf bs))
+  unfolding readSheet
+  by-tests {a} {b} p q = ap (λ (f : Bool). answer f (sheetOf (wordsOf bs))) (regroup (wordsFit bs) (placed (wordsOf bs)) (bodiesFit (sheetOf (wordsOf bs))) ∙ ap₂ _&&_ p q)
+    where
+      regroup : (x y z : Bool) → x && (y && z) ≡ (x && y) && z
+      regroup true y z = refl
+      regroup false y z = refl
+
+  pub no-head : wordsFit bs && placed (wordsOf bs) ≡ false → readSheet bs ≡ refused 40
+  no-head p = by-tests p refl
+
+  pub no-bodies : wordsFit bs && placed (wordsOf bs) ≡ true → bodiesFit (sheetOf (wordsOf bs)) ≡ false → readSheet bs ≡ refused 40
+  no-bodies p q = by-tests p q
+
+  pub over-limits : wordsFit bs && placed (wordsOf bs) ≡ true → bodiesFit (sheetOf (wordsOf bs)) ≡ true → withinLimits (sheetOf (wordsOf bs)) ≡ false → readSheet bs ≡ refused 5
+  over-limits p q l = by-tests p q ∙ ap (λ (w : Bool). unless w 5 (sheetOf (wordsOf bs))) l
+
+  pub reads : wordsFit bs && placed (wordsOf bs) ≡ true → bodiesFit (sheetOf (wordsOf bs)) ≡ true → withinLimits (sheetOf (wordsOf bs)) ≡ true → readSheet bs ≡ done (sheetOf (wordsOf bs))
+  reads p q l = by-tests p q ∙ ap (λ (w : Bool). unless w 5 (sheetOf (wordsOf bs))) l
+
+  module _ (p : wordsFit bs && placed (wordsOf bs) ≡ true) where
+    head-parts : (11 ≤ length (wordsOf bs)) × (follow (wordsOf bs) 11 (0 ∷ 1 ∷ 2 ∷ 3 ∷ 4 ∷ []) ≡ true)
+    unfolding placed
+    head-parts = on (wordsFit bs) (leb 11 (length (wordsOf bs))) refl (eqb (word (wordsOf bs) 0) 5) (follow (wordsOf bs) 11 (0 ∷ 1 ∷ 2 ∷ 3 ∷ 4 ∷ [])) p
+      where
+        on : (a b : Bool) → leb 11 (length (wordsOf bs)) ≡ b → (c d : Bool) → a && (b && (c && d)) ≡ true → (11 ≤ length (wordsOf bs)) × (d ≡ true)
+        on true true e true d q = (leb-true 11 (length (wordsOf bs)) e, q)
+        on true true e false d q = absurd (subst T (sym q) tt)
+        on true false e c d q = absurd (subst T (sym q) tt)
+        on false b e c d q = absurd (subst T (sym q) tt)
+
+    pub head-bytes : 88 ≤ length bs
+    head-bytes = omega (arith, head-parts .0, words-length bs)
+
+    pub places-located : Located (wordsOf bs) (placesOf (wordsOf bs))
+    places-located = located (wordsOf bs) (head-parts .1)
+
+    -- the limits, by places
+    pub limits-at : (q : Places) → q ≡ placesOf (wordsOf bs) → withinLimits (sheetOf (wordsOf bs)) ≡ leb ((q .end - q .events) / 6) 64 && leb (q .events - q .samples) 256
+    limits-at q e =
+        let l = places-located in
+        let r = placesOf (wordsOf bs) in
+        ap₂ _&&_ (ap (λ (n : ℕ). leb (n / 6) 64) (body-length (wordsOf bs) (r .events) (r .end) 4 (l .events .0) (l .events .1) (omega (arith, l .whole))))
+        (ap (λ (n : ℕ). leb n 256) (body-length (wordsOf bs) (r .samples) (r .events) 3 (l .samples .0) (l .samples .1) (omega (arith, l .events .1, l .whole))))
+        ∙ ap (λ (x : Places). leb ((x .end - x .events) / 6) 64 && leb (x .events - x .samples) 256) (sym e)
