@@ -1,0 +1,4 @@
+pub mod Writing
+pub mod Lengths
+pub mod Printing
+pub mod Examples
