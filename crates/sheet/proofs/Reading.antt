@@ -2,12 +2,12 @@
 use mathlib.Core.Path.{_≡_, refl, sym, ap, ap₂, _∙_, subst}
 use mathlib.Core.Bool.{Bool, true, false, _&&_}
 use mathlib.Core.List.{List, [], _∷_}
-use Prim.Native.Nat.{ℕ, _-_, _/_, _≤_}
+use Prim.Native.Nat.{ℕ, suc, _-_, _/_, _≤_}
 use native.Mathlib.Omega.{arith}
 use borrow.Author.Tests.{leb-true}
 use lib.Dec.{T, eqb, leb}
 use lib.ListN.{length}
-use Rattle.refusal.specs.Result.{Result, refused, done, andThen, unless}
+use Rattle.refusal.specs.Result.{Result, refused, done, andThen, unless, number}
 use Rattle.layout.specs.Layout.{eventCount}
 use Rattle.sheet.specs.Sheet.{wordsOf, word, follow, placed, Sheet, sheetOf, bodiesFit, wordsFit, withinLimits, readSheet}
 use Rattle.sheet.specs.Reader.{placesOf, Located}
@@ -38,6 +38,33 @@ module _ (bs : List ℕ) where
 
   pub reads : wordsFit bs && placed (wordsOf bs) ≡ true → bodiesFit (sheetOf (wordsOf bs)) ≡ true → withinLimits (sheetOf (wordsOf bs)) ≡ true → readSheet bs ≡ done (sheetOf (wordsOf bs))
   reads p q l = by-tests p q ∙ ap (λ (w : Bool). unless w 5 (sheetOf (wordsOf bs))) l
+
+  -- what is read passes each test
+  pub record Passes : Type 0 where
+    pub head : wordsFit bs && placed (wordsOf bs) ≡ true
+    pub bodies : bodiesFit (sheetOf (wordsOf bs)) ≡ true
+    pub limits : withinLimits (sheetOf (wordsOf bs)) ≡ true
+
+  pub read-passes : number (readSheet bs) ≡ 0 → Passes
+  read-passes e = on (wordsFit bs && placed (wordsOf bs)) refl (bodiesFit (sheetOf (wordsOf bs))) refl (withinLimits (sheetOf (wordsOf bs))) refl
+    where
+      not-zero : {A : Type 0} {c : ℕ} → readSheet bs ≡ refused (suc c) → A
+      not-zero q = absurd (no (sym (ap number q) ∙ e))
+        where
+          no : {c : ℕ} → suc c ≡ 0 → ⊥
+          no q = omega arith
+
+      on : (a : Bool) → wordsFit bs && placed (wordsOf bs) ≡ a → (b : Bool) → bodiesFit (sheetOf (wordsOf bs)) ≡ b → (c : Bool) → withinLimits (sheetOf (wordsOf bs)) ≡ c → Passes
+      on true p true q true l = record { head = p; bodies = q; limits = l }
+      on true p true q false l = not-zero (over-limits p q l)
+      on true p false q c l = not-zero (no-bodies p q)
+      on false p b q c l = not-zero (no-head p)
+
+  pub read-limits : {s : Sheet} → readSheet bs ≡ done s → withinLimits s ≡ true
+  read-limits {s} e = let p = read-passes (ap number e) in ap withinLimits (same (sym e ∙ reads (p .head) (p .bodies) (p .limits))) ∙ p .limits
+    where
+      same : {t : Sheet} → done s ≡ done t → s ≡ t
+      same q = cc
 
   module _ (p : wordsFit bs && placed (wordsOf bs) ≡ true) where
     head-parts : (11 ≤ length (wordsOf bs)) × (follow (wordsOf bs) 11 (0 ∷ 1 ∷ 2 ∷ 3 ∷ 4 ∷ []) ≡ true)

@@ -5,9 +5,11 @@ mod words;
 
 pub use bodies::Places;
 pub use bodies::Read;
+pub use bodies::body;
 pub use bodies::read_sheet;
 pub use values::double;
 pub use values::doubles;
+pub use values::event_of;
 pub use values::events_of;
 pub use values::kernel_of;
 pub use values::window_of;

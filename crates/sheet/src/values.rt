@@ -98,7 +98,7 @@ pub fn kernel_of(part: &[u8]) -> Made
 }
 
 // Event i, whose words are there.
-fn event_of(part: &[u8], i: usize) -> Event
+pub fn event_of(part: &[u8], i: usize) -> Event
     requires { ⌜ 48 * i + 48 ≤ length (now part) ⌝ }
     ensures { λ r. ⌜ r ≡ eventOf (wordsOf (now (part .entry))) i ⌝ }
 {

@@ -44,7 +44,7 @@ use Rattle.simulation.specs.declared.RunReply.the-variants.{Stopped, Rea
 use Rattle.simulation.proofs.KernelRuns.{kernel-run}
 
 -- ---- what holds where no test ahead refuses
-own-none : (k : LinearPk) → ownNumber (sound k) ≡ none → sound k ≡ done k
+pub own-none : (k : LinearPk) → ownNumber (sound k) ≡ none → sound k ≡ done k
 own-none k = on (counted k) (λ (j : LinearPk). ratesFinite j)
   where
     some-none : {A : Type 0} {c : ℕ} → some c ≡ none → A
