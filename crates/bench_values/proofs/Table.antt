@@ -7,7 +7,8 @@ use Rattle.binary64.specs.Doubles.{magnitude, larger, totalLe}
 use Rattle.binary64.specs.Sort.{sortBy, firsts}
 use Rattle.matrix.specs.Matrix.{tabulate, table, sumTo, allTo, dot, product, quotient, plus, halved, identity}
 use Rattle.matrix.specs.Exponential.{rowSum, normTo, halvings, countOf, halvedTimes, nextTerm, series, squarings, taylor, allFinite, exponential}
-use Rattle.linear_pk.specs.LinearPk.{diagonalTo, rateOf, padded, kernelOf, stateCount, ratesFinite, valuesPass, passes, new, blockCell, propagator, amountTo, applied, interval, advance}
+use Rattle.interval.specs.Interval.{blockCell, propagator, amountTo, applied, interval}
+use Rattle.linear_pk.specs.LinearPk.{diagonalTo, rateOf, padded, kernelOf, stateCount, ratesFinite, valuesPass, passes, new, advance}
 use Rattle.protocol.specs.Events.{target, isReset, isBolus, running, marks}
 use Rattle.protocol.specs.Prepare.{prepare}
 use Rattle.protocol.specs.Schedule.{flows, rateOf as infusionRate}

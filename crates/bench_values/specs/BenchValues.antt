@@ -11,7 +11,8 @@ use Rattle.binary64.specs.Doubles.{plusZero, minusZero, one, half}
 use Rattle.refusal.specs.Result.{Result, refused, done, andThen}
 use Rattle.matrix.specs.Matrix.{Matrix, table}
 use Rattle.matrix.specs.Exponential.{scheme}
-use Rattle.linear_pk.specs.LinearPk.{new, stateCount, entry, propagator, advance}
+use Rattle.interval.specs.Interval.{entry, propagator}
+use Rattle.linear_pk.specs.LinearPk.{new, stateCount, advance}
 use Rattle.linear_pk.specs.declared.kernel.LinearPk.{LinearPk}
 use Rattle.linear_pk.specs.declared.kernel.Absorption.{Absorption}
 use Rattle.linear_pk.specs.declared.kernel.Absorption.the-variants.{Absent, FirstOrder}
@@ -37,7 +38,7 @@ eight = fin false 1 (pos 3)
 
 -- the matrix of a kernel's rates
 abbrev pub matrixOf : Result LinearPk → Result Matrix
-matrixOf r = andThen r (λ k. done (table (stateCount k) (entry k)))
+matrixOf r = andThen r (λ k. done (table (stateCount k) (entry (k .rates))))
 
 -- one volume of 1 and nothing else but a clearance
 abbrev pub single : Float → Result LinearPk
@@ -49,7 +50,7 @@ after duration = andThen (single plusZero) (λ k. advance scheme k (three ∷ []
 
 -- how many halvings a duration of 1 takes
 abbrev pub halvings : Float → Result ℕ
-halvings clearance = andThen (single clearance) (λ k. andThen (propagator scheme k one) (λ e. done (e .halved)))
+halvings clearance = andThen (single clearance) (λ k. andThen (propagator scheme (stateCount k) (k .rates) one) (λ e. done (e .halved)))
 
 -- from 0, with tolerances 1 and budgets 100
 abbrev pub window : Float → Window

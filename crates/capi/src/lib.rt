@@ -181,7 +181,7 @@ pub extern "C" fn linear_pk_new(
             }
             let value = made.kernel;
             let cells = kernel_cells(value);
-            linear_pk::lay(&cells, kernel);
+            interval::lay(&cells, kernel);
             0
         }
     }
@@ -235,7 +235,7 @@ pub extern "C" fn linear_pk_bind(kernel: &[f64], initial: &[f64], bound: &mut [f
             }
             let value = made.bound;
             let cells = bound_cells(value);
-            linear_pk::lay(&cells, bound);
+            interval::lay(&cells, bound);
             0
         }
     }

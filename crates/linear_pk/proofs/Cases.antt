@@ -1,63 +1,33 @@
 -- The definitions case by case, in the words of the code.
-use mathlib.Core.Path.{_≡_, refl, sym, ap, ap₂, _∙_}
+use mathlib.Core.Path.{_≡_, refl, sym}
 use mathlib.Core.Bool.{Bool, true, false, _&&_}
 use mathlib.Core.List.{List}
-use Prim.Native.Nat.{ℕ, zero, suc, _+_, _<_, _≤_, _-_}
+use Prim.Native.Nat.{ℕ, _<_, _≤_, _-_}
 use native.Mathlib.Omega.{arith}
 use borrow.Author.Tests.{lt-ltb, le-leb, lt-leb}
 use lib.Dec.{eqb, leb}
 use lib.ListN.{length}
-use lib.Ieee.{Float, binary64, add, mul, eq}
+use lib.Ieee.{Float}
 use lib.Ieee.Scale.{finite}
-use Rattle.binary64.specs.Doubles.{plusZero, magnitude, larger, nonnegative}
-use Rattle.matrix.specs.Matrix.{Matrix, cell, at, tabulate, sumTo, allTo}
+use Rattle.binary64.specs.Doubles.{nonnegative}
+use Rattle.matrix.specs.Matrix.{tabulate}
 use Rattle.binary64.specs.Lists.{all, amountsPass}
-use Rattle.matrix.specs.Arrays.{lead, Holds}
-use Rattle.refusal.specs.Result.{Result, refused, done, andThen, unless}
-use Rattle.matrix.specs.Exponential.{Scheme, Exponential, rowSum, normTo, countOf, taylor, allFinite, exponential}
-use Rattle.linear_pk.specs.LinearPk.{stateCount, sound, propagator, amountTo, applied, over, interval, advance, concentration, concentrations, bind, passes, valuesPass, kernelOf, ratesFinite, new, noBound, padded, states, mostCompartments}
+use Rattle.refusal.specs.Result.{refused, done, andThen, unless}
+use Rattle.matrix.specs.Exponential.{Scheme}
+use Rattle.interval.specs.Interval.{states, interval}
+use Rattle.linear_pk.specs.LinearPk.{stateCount, sound, advance, concentration, concentrations, bind, passes, valuesPass, kernelOf, ratesFinite, new, padded, mostCompartments}
 use Rattle.linear_pk.specs.declared.kernel.LinearPk.{LinearPk}
 use Rattle.linear_pk.specs.declared.kernel.Absorption.{Absorption}
-use Rattle.matrix.proofs.Filled.{tabulate-cong}
-use Rattle.matrix.proofs.Rows.{sum-cong, all-cong, lead-at}
 
--- ---- the propagator applied
-pub applied-at :
-    (n : ℕ) (p : Matrix) (x r : List Float) (d : Float) {b c : Bool} {y : List Float}
-    → b ≡ allTo (λ j. finite (mul binary64 (cell r j) d)) n → y ≡ tabulate n (λ i. amountTo p n x r d i n) → c ≡ all nonnegative y
-    → applied n (lead (n + n) p) x r d ≡ andThen (unless b 22 y) (λ _. unless c 22 y)
-unfolding applied amountTo
-applied-at n p x r d {b} {c} {y} f e g =
-    let q : tabulate n (λ i. amountTo (lead (n + n) p) n x r d i n) ≡ y =
-    tabulate-cong n (λ i l. sum-cong n (λ j k. ap₂ (λ (u v : Float). add binary64 (mul binary64 u (cell x j)) (mul binary64 v (mul binary64 (cell r j) d))) (lead-at (n + n) p i j (omega arith) (omega arith)) (lead-at (n + n) p i (j + n) (omega arith) (omega arith))))
-    ∙ sym e in
-    rw (q, ← f) (on b)
-  where
-    on : (b : Bool) → andThen (unless b 22 y) (λ y. unless (all nonnegative y) 22 y) ≡ andThen (unless b 22 y) (λ _. unless c 22 y)
-    on true = rw g
-    on false = refl
-
--- ---- an interval, and `advance`
+-- ---- `advance`
 module _ (s : Scheme) (k : LinearPk) (x r : List Float) (d : Float) where
-  pub interval-none : eq d plusZero ≡ true → interval s k x r d ≡ done x
-  unfolding interval
-  interval-none h = rw h
-
-  pub interval-refused : {n : ℕ} → eq d plusZero ≡ false → propagator s k d ≡ refused n → interval s k x r d ≡ refused n
-  unfolding interval
-  interval-refused h e = rw (h, e)
-
-  pub interval-applied : {e : Exponential} → eq d plusZero ≡ false → propagator s k d ≡ done e → interval s k x r d ≡ applied (stateCount k) (e .matrix) x r d
-  unfolding interval
-  interval-applied h e = rw (h, e)
-
   pub advance-unsound : (room : ℕ) {n : ℕ} → sound k ≡ refused n → advance s k x r d room ≡ refused n
   unfolding advance
   advance-unsound room h = rw h
 
   pub advance-sound :
       (room : ℕ) {b : Bool} {j : LinearPk} → sound k ≡ done j → b ≡ amountsPass (stateCount k) x && (amountsPass (stateCount k) r && nonnegative d)
-      → advance s k x r d room ≡ andThen (unless b 3 x) (λ _. andThen (unless (leb (stateCount k) room) 4 x) (λ _. interval s k x r d))
+      → advance s k x r d room ≡ andThen (unless b 3 x) (λ _. andThen (unless (leb (stateCount k) room) 4 x) (λ _. interval s (stateCount k) (k .rates) x r d))
   unfolding advance
   advance-sound room h e = rw (h, ← e)
 

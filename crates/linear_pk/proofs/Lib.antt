@@ -1,4 +1,2 @@
-pub mod Laid
 pub mod Counted
-pub mod Blocks
 pub mod Cases

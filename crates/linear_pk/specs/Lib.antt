@@ -1,2 +1,1 @@
 pub mod LinearPk
-pub mod Tests

@@ -1,26 +1,22 @@
--- 01, "Amounts and concentrations": the mammillary model (one to three compartments, an optional depot) and its solution over an interval
--- with constant input. The rates are those of the compartment equations dA/dt = K·A + R (Gibaldi and Perrier, Pharmacokinetics, 1982, ch. 2);
--- the block [K·t, 1; 0, 0] has the exponential of K·t and its integral in its upper half (C. Van Loan, IEEE Trans. Automat. Contr. 23, 1978).
-use mathlib.Core.Bool.{Bool, true, false, not, _&&_, cond}
+-- 01, "Amounts and concentrations": the mammillary model (one to three compartments, an optional depot). The rates are those of the compartment
+-- equations dA/dt = K·A + R (Gibaldi and Perrier, Pharmacokinetics, 1982, ch. 2); their solution over an interval is in `interval/specs/Interval.antt`.
+use mathlib.Core.Bool.{Bool, true, false, _&&_, cond}
 use mathlib.Core.List.{List}
 use Prim.Native.Nat.{ℕ, zero, suc, _+_, _-_, _*_, _/_, _%_}
 use lib.Dec.{eqb, ltb, leb}
 use lib.ListN.{length, replicate}
-use lib.Ieee.{Float, binary64, add, sub, mul, div, neg, eq}
+use lib.Ieee.{Float, binary64, sub, div, neg}
 use lib.Ieee.Scale.{finite}
-use Rattle.binary64.specs.Doubles.{plusZero, one, nonnegative, positive}
-use Rattle.matrix.specs.Matrix.{Matrix, cell, at, tabulate, table, sumTo, allTo}
+use Rattle.binary64.specs.Doubles.{plusZero, nonnegative, positive}
+use Rattle.matrix.specs.Matrix.{cell, tabulate, allTo}
 use Rattle.binary64.specs.Lists.{all, amountsPass}
-use Rattle.refusal.specs.Result.{Result, refused, done, andThen, unless}
-use Rattle.matrix.specs.Exponential.{Scheme, Exponential, exponential}
+use Rattle.refusal.specs.Result.{Result, andThen, unless}
+use Rattle.matrix.specs.Exponential.{Scheme}
+use Rattle.interval.specs.Interval.{states, entry, interval}
 use Rattle.linear_pk.specs.declared.kernel.Absorption.{Absorption}
 use Rattle.linear_pk.specs.declared.kernel.Absorption.the-variants.{Absent, FirstOrder}
 use Rattle.linear_pk.specs.declared.kernel.LinearPk.{LinearPk}
 use Rattle.linear_pk.specs.declared.bind.BoundLinearPk.{BoundLinearPk}
-
--- the most states: the width of a kernel's matrix
-abbrev pub states : ℕ
-states = 4
 
 -- the most volumes
 abbrev pub mostCompartments : ℕ
@@ -98,11 +94,8 @@ counted k = ltb 0 (k .compartments) && leb (k .compartments) mostCompartments
 unfoldable pub stateCount : LinearPk → ℕ
 stateCount k = cond (counted k) (k .compartments + place (k .depot)) 0
 
-abbrev pub entry : LinearPk → ℕ → ℕ → Float
-entry k i j = cell (k .rates) (i * states + j)
-
 unfoldable pub ratesFinite : LinearPk → Bool
-ratesFinite k = allTo (λ i. allTo (λ j. finite (entry k i j)) (stateCount k)) (stateCount k)
+ratesFinite k = allTo (λ i. allTo (λ j. finite (entry (k .rates) i j)) (stateCount k)) (stateCount k)
 
 -- 1 for a count that `new` does not give, 2 for a rate that is not finite
 abbrev pub sound : LinearPk → Result LinearPk
@@ -121,40 +114,13 @@ unfoldable pub new : Float → List Float → List Float → Absorption → Resu
 new cl vs qs a = andThen (unless (passes cl vs qs a) 1 (kernelOf cl vs qs a)) (λ k. unless (ratesFinite k) 2 k)
 
 -- ---- `advance`
--- the block of a duration: rates times duration upper left, ones at (i, i + n), zeros elsewhere
-unfoldable pub blockCell : ℕ → LinearPk → Float → ℕ → ℕ → Float
-blockCell n k d i j = cond (ltb i n) (cond (ltb j n) (mul binary64 (entry k i j) d) (cond (eqb (j - n) i) one plusZero)) plusZero
-
--- the exponential of a duration, apart from the amounts that it is applied to
-unfoldable pub propagator : Scheme → LinearPk → Float → Result Exponential
-propagator s k d = let n = stateCount k in exponential s (n + n) (table (n + n) (blockCell n k d))
-
--- amount i: the sum over j of P(i,j)·amount + P(i,j+n)·(rate·duration), that pair added first
-unfoldable pub amountTo : Matrix → ℕ → List Float → List Float → Float → ℕ → ℕ → Float
-amountTo p n x r d i k =
-    sumTo (λ j. add binary64 (mul binary64 (at p i j) (cell x j)) (mul binary64 (at p i (j + n)) (mul binary64 (cell r j) d))) k
-
--- 22 where a rate·duration is not finite, or an amount is not finite or below 0
-unfoldable pub applied : ℕ → Matrix → List Float → List Float → Float → Result (List Float)
-applied n p x r d =
-    andThen (unless (allTo (λ j. finite (mul binary64 (cell r j) d)) n) 22 (tabulate n (λ i. amountTo p n x r d i n)))
-    (λ y. unless (all nonnegative y) 22 y)
-
--- duration 0 hands the amounts back before any exponential
-abbrev pub over : Bool → List Float → Result (List Float) → Result (List Float)
-over true x r = done x
-over false x r = r
-
-unfoldable pub interval : Scheme → LinearPk → List Float → List Float → Float → Result (List Float)
-interval s k x r d = over (eq d plusZero) x (andThen (propagator s k d) (λ e. applied (stateCount k) (e .matrix) x r d))
-
 -- the amounts x after a duration d at the input rates r, for a slice of `room` cells
 unfoldable pub advance : Scheme → LinearPk → List Float → List Float → Float → ℕ → Result (List Float)
 advance s k x r d room =
     let n = stateCount k in
     andThen (sound k)
     (λ _. andThen (unless (amountsPass n x && (amountsPass n r && nonnegative d)) 3 x)
-    (λ _. andThen (unless (leb n room) 4 x) (λ _. interval s k x r d)))
+    (λ _. andThen (unless (leb n room) 4 x) (λ _. interval s n (k .rates) x r d)))
 
 -- ---- `concentrations`: amount by volume, the depot skipped
 abbrev pub concentration : LinearPk → List Float → ℕ → Float

@@ -54,7 +54,7 @@ impl LinearPk {
             Reply::Refused(refusal) => not_bound(refusal),
             Reply::Done => {
                 let n = self.state_count();
-                if !kernel::amounts_pass(n, initial) {
+                if !interval::amounts_pass(n, initial) {
                     return not_bound(Refusal::Argument);
                 }
                 let list = padded_amounts(initial);

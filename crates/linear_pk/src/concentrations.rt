@@ -1,9 +1,8 @@
 // Amounts by volume.
-use crate::advance;
 use crate::kernel;
 use crate::kernel::LinearPk;
-use crate::kernel::Test;
 use crate::kernel::VOLUMES;
+use interval::Test;
 use refusal::Refusal;
 use refusal::Reply;
 ghost use mathlib.Core.Path.{_≡_};
@@ -50,7 +49,7 @@ impl LinearPk {
             Reply::Done => {
                 let n = self.state_count();
                 let count = self.compartments;
-                if !kernel::amounts_pass(n, amounts) {
+                if !interval::amounts_pass(n, amounts) {
                     return Reply::Refused(Refusal::Argument);
                 }
                 if result.len() < count {
@@ -58,10 +57,10 @@ impl LinearPk {
                 }
                 let list = listed(self, amounts, count);
                 let values = &list[..count];
-                if !kernel::all_pass(Test::Finite, values) {
+                if !interval::all_pass(Test::Finite, values) {
                     return Reply::Refused(Refusal::ConcentrationNotFinite);
                 }
-                advance::lay(values, result);
+                interval::lay(values, result);
                 Reply::Done
             }
         }

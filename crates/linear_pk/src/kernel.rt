@@ -1,22 +1,21 @@
 // The kernel: a matrix of rates, the volumes, and whether there is a depot.
+use interval::CELLS;
+use interval::Test;
 use matrix::STATES;
 use refusal::Refusal;
 use refusal::Reply;
 ghost use mathlib.Core.Path.{_≡_};
 ghost use Prim.Native.Nat.{_+_, _≤_, _<_};
 ghost use lib.ListN.{length};
-ghost use Rattle.linear_pk.specs.LinearPk.{centralOf, absorbed as absorbedOf, diagonalTo, centralRate, peripheralRate, rateOf, entry as entryOf, paddedRate, paddedCell, padded, stateCount, depotOf, valuesPass, ratesFinite, sound, kernelOf, noKernel, new as newOf};
+ghost use Rattle.linear_pk.specs.LinearPk.{centralOf, absorbed as absorbedOf, diagonalTo, centralRate, peripheralRate, rateOf, paddedRate, paddedCell, padded, stateCount, depotOf, valuesPass, ratesFinite, sound, kernelOf, noKernel, new as newOf};
 ghost use Rattle.matrix.specs.Matrix.{tabulate, allTo};
-ghost use Rattle.binary64.specs.Lists.{all, amountsPass};
+ghost use Rattle.interval.specs.Interval.{entry};
 ghost use Rattle.refusal.specs.Result.{valueOr};
 ghost use Rattle.refusal.specs.Numbers.{resultOf};
-ghost use Rattle.linear_pk.specs.Tests.{passesTest};
 ghost use lib.Ieee.Scale.{finite};
 
-// Volumes that a kernel can hold, and the cells of its matrix.
+// Volumes that a kernel can hold.
 pub const VOLUMES: usize = STATES - 1;
-
-pub const CELLS: usize = STATES * STATES;
 
 // First-order absorption from a depot, or none.
 pub enum Absorption {
@@ -46,15 +45,6 @@ impl LinearPk {
         }
         if self.depot { count + 1 } else { count }
     }
-}
-
-// The rate from state j to state i.
-pub fn entry(kernel: LinearPk, i: usize, j: usize) -> f64
-    requires { ⌜ (i < 4) × (j < 4) ⌝ }
-    ensures { λ r. ⌜ r ≡ entryOf kernel i j ⌝ }
-{
-    let at = i * STATES + j;
-    kernel.rates[at]
 }
 
 // The place of the central state.
@@ -205,61 +195,23 @@ fn padded_volumes(volumes: &[f64]) -> [f64; VOLUMES]
     list
 }
 
-pub enum Test {
-    Finite,
-    // Finite and not below 0.
-    Nonnegative,
-    // Finite and above 0.
-    Positive,
-}
-
-fn passes(test: Test, x: f64) -> bool
-    ensures { λ r. ⌜ r ≡ passesTest test x ⌝ }
-{
-    match test {
-        Test::Finite => binary64::is_finite(x),
-        Test::Nonnegative => binary64::is_nonnegative(x),
-        Test::Positive => binary64::is_positive(x),
-    }
-}
-
-// Whether each value passes.
-pub fn all_pass(test: Test, xs: &[f64]) -> bool
-    ensures { λ r. ⌜ r ≡ all (passesTest test) (now (xs .entry)) ⌝ }
-{
-    let mut ok = true;
-    let mut i = 0usize;
-    while i < xs.len() {
-        ok = ok & passes(test, xs[i]);
-        i += 1;
-    }
-    ok
-}
-
-// Whether there are n values, each finite and not below 0.
-pub fn amounts_pass(n: usize, xs: &[f64]) -> bool
-    ensures { λ r. ⌜ r ≡ amountsPass n (now (xs .entry)) ⌝ }
-{
-    (xs.len() == n) & all_pass(Test::Nonnegative, xs)
-}
-
 // Whether the values pass, of 1 to 3 volumes and one exchange fewer.
 fn values_pass(clearance: f64, volumes: &[f64], exchange: &[f64], absorption: Absorption) -> bool
     ensures { λ r. ⌜ r ≡ valuesPass clearance (now (volumes .entry)) (now (exchange .entry)) absorption ⌝ }
 {
     binary64::is_nonnegative(clearance)
-        & (all_pass(Test::Positive, volumes)
-            & (all_pass(Test::Nonnegative, exchange)
+        & (interval::all_pass(Test::Positive, volumes)
+            & (interval::all_pass(Test::Nonnegative, exchange)
                 & binary64::is_nonnegative(absorbed(absorption))))
 }
 
-fn row_finite(kernel: LinearPk, n: usize, i: usize) -> bool
+fn row_finite(rates: [f64; CELLS], n: usize, i: usize) -> bool
     requires { ⌜ (i < 4) × (n ≤ 4) ⌝ }
-    ensures { λ r. ⌜ r ≡ allTo (λ j. finite (entryOf kernel i j)) n ⌝ }
+    ensures { λ r. ⌜ r ≡ allTo (λ j. finite (entry rates i j)) n ⌝ }
 {
     let mut ok = true;
     for j in 0..n {
-        ok = ok & binary64::is_finite(entry(kernel, i, j));
+        ok = ok & binary64::is_finite(interval::entry(rates, i, j));
     }
     ok
 }
@@ -268,9 +220,10 @@ fn rates_finite(kernel: LinearPk) -> bool
     ensures { λ r. ⌜ r ≡ ratesFinite kernel ⌝ }
 {
     let n = kernel.state_count();
+    let rates = kernel.rates;
     let mut ok = true;
     for i in 0..n {
-        ok = ok & row_finite(kernel, n, i);
+        ok = ok & row_finite(rates, n, i);
     }
     ok
 }

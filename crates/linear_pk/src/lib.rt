@@ -4,13 +4,10 @@ mod bind;
 mod concentrations;
 mod kernel;
 
-pub use advance::lay;
 pub use bind::Bound;
 pub use bind::BoundLinearPk;
 pub use kernel::Absorption;
 pub use kernel::LinearPk;
 pub use kernel::Made;
-pub use kernel::Test;
-pub use kernel::all_pass;
 pub use kernel::check;
 pub use kernel::none;

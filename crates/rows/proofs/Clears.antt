@@ -5,7 +5,7 @@ use native.Mathlib.Nat.{le-of-suc-le-suc, sub-zero}
 use native.Mathlib.Omega.{arith}
 use mathlib.Core.List.{List, [], _++_}
 use lib.ListN.{length, getD, set, drop, replicate, length-replicate}
-use Rattle.linear_pk.proofs.Laid.{Laying, laying-start, laying-more, laying-done}
+use Rattle.interval.proofs.Laid.{Laying, laying-start, laying-more, laying-done}
 use Rattle.protocol.specs.Entry.{laid}
 
 module _ {A : Type 0} (z : A) (k : ℕ) (old : List A) where

@@ -16,8 +16,9 @@ use Rattle.matrix.specs.Matrix.{Matrix, cell, tabulate, allTo}
 use Rattle.binary64.specs.Lists.{all, amountsPass}
 use Rattle.matrix.specs.Exponential.{Scheme, scheme, Exponential, halvings, countOf, normTo, taylor, allFinite, exponential}
 use Rattle.matrix.proofs.Filled.{tabulate-length}
+use Rattle.interval.specs.Interval.{propagator, amountTo, applied, over, interval}
 use Rattle.linear_pk.specs.declared.kernel.LinearPk.{LinearPk}
-use Rattle.linear_pk.specs.LinearPk.{counted, ratesFinite, sound, stateCount, propagator, amountTo, applied, over, interval, advance}
+use Rattle.linear_pk.specs.LinearPk.{counted, ratesFinite, sound, stateCount, advance}
 use Rattle.linear_pk.proofs.Counted.{and-first, amounts-count}
 use Rattle.rows.specs.Told.{kernelAdvance}
 
@@ -70,13 +71,13 @@ module _ (s : Scheme) (k : LinearPk) where
         (sure-unless (Sized n) (allTo (λ j. finite (mul binary64 (cell r j) d)) n) 22 (tabulate n (λ i. amountTo p n x r d i n)) (omega arith) (λ _. tabulate-length (λ i. amountTo p n x r d i n) n))
         (λ y h. sure-unless (Sized n) (all nonnegative y) 22 y (omega arith) (λ _. h))
 
-    sure-interval : length x ≡ stateCount k → Sure (Sized (stateCount k)) (interval s k x r d)
+    sure-interval : (n : ℕ) → length x ≡ n → Sure (Sized n) (interval s n (k .rates) x r d)
     unfolding interval propagator
-    sure-interval h = on (eq d plusZero)
+    sure-interval n h = on (eq d plusZero)
       where
-        on : (b : Bool) → Sure (Sized (stateCount k)) (over b x (andThen (propagator s k d) (λ e. applied (stateCount k) (e .matrix) x r d)))
+        on : (b : Bool) → Sure (Sized n) (over b x (andThen (propagator s n (k .rates) d) (λ e. applied n (e .matrix) x r d)))
         on true = h
-        on false = sure-then Any (Sized (stateCount k)) (propagator s k d) (λ e. applied (stateCount k) (e .matrix) x r d) (sure-exponential (stateCount k + stateCount k) _) (λ e _. sure-applied (stateCount k) (e .matrix))
+        on false = sure-then Any (Sized n) (propagator s n (k .rates) d) (λ e. applied n (e .matrix) x r d) (sure-exponential (n + n) _) (λ e _. sure-applied n (e .matrix))
 
     sure-advance : (room : ℕ) → Sure (Sized (length x)) (advance s k x r d room)
     unfolding advance
@@ -85,7 +86,7 @@ module _ (s : Scheme) (k : LinearPk) where
         (λ _ _. sure-then (λ (_ : List Float). length x ≡ n) (Sized (length x)) (unless (amountsPass n x && (amountsPass n r && nonnegative d)) 3 x) _
         (sure-unless (λ (_ : List Float). length x ≡ n) (amountsPass n x && (amountsPass n r && nonnegative d)) 3 x (omega arith) (λ h. amounts-count n x (and-first (amountsPass n x) _ h)))
         (λ _ e. sure-then Any (Sized (length x)) (unless (leb n room) 4 x) _ (sure-unless Any (leb n room) 4 x (omega arith) (λ _. tt))
-        (λ _ _. subst (λ (j : ℕ). Sure (Sized j) (interval s k x r d)) (sym e) (sure-interval e))))
+        (λ _ _. subst (λ (j : ℕ). Sure (Sized j) (interval s n (k .rates) x r d)) (sym e) (sure-interval n e))))
       where
         n : ℕ
         n = stateCount k

@@ -3,8 +3,8 @@ mod clear;
 
 pub use clear::clear_reals;
 pub use clear::clear_sides;
+use interval::Test;
 use linear_pk::LinearPk;
-use linear_pk::Test;
 use matrix::STATES;
 use refusal::Reply;
 ghost use mathlib.Core.Path.{_≡_};
@@ -55,7 +55,7 @@ pub fn put_row(
     sides[row] = side;
     let at = row * n;
     let state = &amounts[..n];
-    linear_pk::lay(state, &mut values[at..]);
+    interval::lay(state, &mut values[at..]);
 }
 
 // The kernel's advance over n states.
@@ -242,7 +242,7 @@ fn arrive(
 fn all_finite(values: &[f64]) -> bool
     ensures { λ r. ⌜ r ≡ all finite (now (values .entry)) ⌝ }
 {
-    linear_pk::all_pass(Test::Finite, values)
+    interval::all_pass(Test::Finite, values)
 }
 
 // From the boundary t to the next boundary u at the summed rates: 32, the readings, the arrival.

@@ -76,7 +76,7 @@ fn distinct(samples: &[f64], readings: &mut [f64]) -> usize
     requires { ⌜ length (now samples) ≤ length (now readings) ⌝ }
     ensures { λ r. ⌜ (r ≤ length (now (readings .exit))) × (take r (now (readings .exit)) ≡ sortedUnique (now (samples .entry))) × T (all (fits binary64) (now (samples .entry))) ⌝ }
 {
-    linear_pk::lay(samples, readings);
+    interval::lay(samples, readings);
     let given = samples.len();
     events::sorted_unique(&mut readings[..given])
 }

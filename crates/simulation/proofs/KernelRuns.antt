@@ -17,7 +17,8 @@ use Rattle.refusal.specs.Result.{Result, refused, done, andThen, unless}
 use Rattle.matrix.specs.Matrix.{Matrix, cell, tabulate, table, allTo}
 use Rattle.matrix.specs.Exponential.{Scheme, scheme, Exponential, normTo, halvings, countOf, taylor, allFinite, exponential}
 use Rattle.matrix.proofs.Filled.{tabulate-length}
-use Rattle.linear_pk.specs.LinearPk.{stateCount, sound, blockCell, propagator, amountTo, applied, over, interval, advance}
+use Rattle.interval.specs.Interval.{blockCell, propagator, amountTo, applied, over, interval}
+use Rattle.linear_pk.specs.LinearPk.{stateCount, sound, advance}
 use Rattle.linear_pk.specs.declared.kernel.LinearPk.{LinearPk}
 use Rattle.protocol.specs.PlainRun.{oneOf, argumentsPass, KernelLaws}
 use Rattle.protocol.proofs.Theorems.{plain-run}
@@ -62,11 +63,11 @@ numbered-applied n p x r d =
     (numbered-unless (allTo (λ j. finite (mul binary64 (cell r j) d)) n) 22 (tabulate n (λ i. amountTo p n x r d i n)) tt)
     (λ y. numbered-unless (all nonnegative y) 22 y tt)
 
-numbered-interval : (s : Scheme) (k : LinearPk) (x r : List Float) (d : Float) → Numbered (interval s k x r d)
+numbered-interval : (s : Scheme) (n : ℕ) (k x r : List Float) (d : Float) → Numbered (interval s n k x r d)
 unfolding interval propagator
-numbered-interval s k x r d =
-    on (eq d plusZero) (andThen (propagator s k d) (λ e. applied (stateCount k) (e .matrix) x r d))
-    (numbered-then (propagator s k d) _ (numbered-exponential s (stateCount k + stateCount k) (table (stateCount k + stateCount k) (blockCell (stateCount k) k d))) (λ e. numbered-applied (stateCount k) (e .matrix) x r d))
+numbered-interval s n k x r d =
+    on (eq d plusZero) (andThen (propagator s n k d) (λ e. applied n (e .matrix) x r d))
+    (numbered-then (propagator s n k d) _ (numbered-exponential s (n + n) (table (n + n) (blockCell n k d))) (λ e. numbered-applied n (e .matrix) x r d))
   where
     on : (b : Bool) (w : Result (List Float)) → Numbered w → Numbered (over b x w)
     on true w h = tt
@@ -96,11 +97,11 @@ kept-applied n p x r d = on (allTo (λ j. finite (mul binary64 (cell r j) d)) n)
     on false = tt
     on true = last (all nonnegative y) (λ t. t)
 
-kept-interval : (s : Scheme) (k : LinearPk) (x r : List Float) (d : Float) → T (amountsPass (stateCount k) x) → Kept (stateCount k) (interval s k x r d)
+kept-interval : (s : Scheme) (n : ℕ) (k x r : List Float) (d : Float) → T (amountsPass n x) → Kept n (interval s n k x r d)
 unfolding interval
-kept-interval s k x r d h = on (eq d plusZero) (andThen (propagator s k d) (λ e. applied (stateCount k) (e .matrix) x r d)) (kept-then (stateCount k) (propagator s k d) _ (λ e. kept-applied (stateCount k) (e .matrix) x r d))
+kept-interval s n k x r d h = on (eq d plusZero) (andThen (propagator s n k d) (λ e. applied n (e .matrix) x r d)) (kept-then n (propagator s n k d) _ (λ e. kept-applied n (e .matrix) x r d))
   where
-    on : (b : Bool) (w : Result (List Float)) → Kept (stateCount k) w → Kept (stateCount k) (over b x w)
+    on : (b : Bool) (w : Result (List Float)) → Kept n w → Kept n (over b x w)
     on true w g = h
     on false w g = g
 
@@ -117,19 +118,19 @@ same-amounts q = cc
 module _ (k : LinearPk) (h : sound k ≡ done k) (x r : List Float) (d : Float) where
   -- `advance`, of a sound kernel into a slice with room
   abbrev body : Bool → Result (List Float)
-  body b = andThen (unless b 3 x) (λ _. interval scheme k x r d)
+  body b = andThen (unless b 3 x) (λ _. interval scheme (stateCount k) (k .rates) x r d)
 
   is-body : propagatorOf k x r d ≡ body (argumentsPass (stateCount k) x r d)
   unfolding advance
   is-body = rw (h, le-leb (stateCount k) (stateCount k) (le-refl (stateCount k))) (on (argumentsPass (stateCount k) x r d))
     where
-      on : (b : Bool) → andThen (unless b 3 x) (λ _. andThen (unless true 4 x) (λ _. interval scheme k x r d)) ≡ body b
+      on : (b : Bool) → andThen (unless b 3 x) (λ _. andThen (unless true 4 x) (λ _. interval scheme (stateCount k) (k .rates) x r d)) ≡ body b
       on true = refl
       on false = refl
 
   three-body : (b : Bool) → (body b ≡ refused 3) ↔ T (not b)
   three-body false = ((λ e. tt), λ t. refl)
-  three-body true = ((λ e. absurd (never (interval scheme k x r d) (numbered-interval scheme k x r d) e)), λ t. absurd t)
+  three-body true = ((λ e. absurd (never (interval scheme (stateCount k) (k .rates) x r d) (numbered-interval scheme (stateCount k) (k .rates) x r d) e)), λ t. absurd t)
     where
       never : (w : Result (List Float)) → Numbered w → w ≡ refused 3 → ⊥
       never (refused c) n e = subst (λ (j : ℕ). T (oneOf j arithmetic)) (same-number e) n
@@ -137,7 +138,7 @@ module _ (k : LinearPk) (h : sound k ≡ done k) (x r : List Float) (d : Float) 
 
   numbers-body : (c : ℕ) (b : Bool) → body b ≡ refused c → T (oneOf c (3 ∷ arithmetic))
   numbers-body c false e = subst (λ (j : ℕ). T (oneOf j (3 ∷ arithmetic))) (same-number e) tt
-  numbers-body c true e = on (interval scheme k x r d) (numbered-interval scheme k x r d) e
+  numbers-body c true e = on (interval scheme (stateCount k) (k .rates) x r d) (numbered-interval scheme (stateCount k) (k .rates) x r d) e
     where
       wide : (a b : Bool) → T b → T (a || b)
       wide true b t = tt
@@ -149,7 +150,7 @@ module _ (k : LinearPk) (h : sound k ≡ done k) (x r : List Float) (d : Float) 
 
   amounts-body : (v : List Float) (b : Bool) → (T b → T (amountsPass (stateCount k) x)) → body b ≡ done v → T (amountsPass (stateCount k) v)
   amounts-body v false p e = absurd (apart (sym e))
-  amounts-body v true p e = on (interval scheme k x r d) (kept-interval scheme k x r d (p tt)) e
+  amounts-body v true p e = on (interval scheme (stateCount k) (k .rates) x r d) (kept-interval scheme (stateCount k) (k .rates) x r d (p tt)) e
     where
       on : (w : Result (List Float)) → Kept (stateCount k) w → w ≡ done v → T (amountsPass (stateCount k) v)
       on (refused j) g e = absurd (apart (sym e))

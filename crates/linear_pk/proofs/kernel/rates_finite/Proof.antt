@@ -7,15 +7,16 @@ use native.Mathlib.Nat.{le-antisymm}
 use native.Mathlib.Numerals.{add-one}
 use lib.Ieee.Scale.{finite}
 use Rattle.matrix.specs.Matrix.{allTo}
-use Rattle.linear_pk.specs.LinearPk.{entry, ratesFinite}
+use Rattle.interval.specs.Interval.{entry}
+use Rattle.linear_pk.specs.LinearPk.{ratesFinite}
 use Rattle.linear_pk.proofs.kernel.rates_finite.Statement.{statement}
 use Rattle.linear_pk.proofs.kernel.rates_finite.Tie as tie
 
 abbrev Inv-loop : tie.InvT-loop
-Inv-loop kernel n ok₀ i₀ ok i = (i ≤ n) × (ok ≡ allTo (λ i. allTo (λ j. finite (entry kernel i j)) n) i)
+Inv-loop n rates ok₀ i₀ ok i = (i ≤ n) × (ok ≡ allTo (λ i. allTo (λ j. finite (entry rates i j)) n) i)
 
 abbrev μ-loop : tie.MeasureT-loop
-μ-loop kernel n ok₀ i₀ ok i = n - i
+μ-loop n rates ok₀ i₀ ok i = n - i
 
 loop-holds : tie.Need-loop-holds Inv-loop μ-loop
 unfolding allTo
@@ -27,7 +28,7 @@ loop-again c = (omega arith, rw add-one cc)
 
 returns : tie.Need-returns Inv-loop μ-loop
 unfolding ratesFinite
-returns c = rw (← c .before .before .state-count .ensures .0) (rw (le-antisymm (c .before .loop .inv .0) (c .loop-test .left)) at (c .before .loop .inv .1))
+returns c = rw (← c .before .before .before .state-count .ensures .0) (rw (le-antisymm (c .before .loop .inv .0) (c .loop-test .left)) at (c .before .loop .inv .1))
 
 pub rates-finite-spec : {M : Type 1} → statement M
 rates-finite-spec =

@@ -7,15 +7,15 @@ use native.Mathlib.Nat.{le-antisymm}
 use native.Mathlib.Numerals.{add-one}
 use lib.Ieee.Scale.{finite}
 use Rattle.matrix.specs.Matrix.{allTo}
-use Rattle.linear_pk.specs.LinearPk.{entry}
+use Rattle.interval.specs.Interval.{entry}
 use Rattle.linear_pk.proofs.kernel.row_finite.Statement.{statement}
 use Rattle.linear_pk.proofs.kernel.row_finite.Tie as tie
 
 abbrev Inv-loop : tie.InvT-loop
-Inv-loop kernel n i ok₀ j₀ ok j = (j ≤ n) × (ok ≡ allTo (λ j. finite (entry kernel i j)) j)
+Inv-loop rates n i ok₀ j₀ ok j = (j ≤ n) × (ok ≡ allTo (λ j. finite (entry rates i j)) j)
 
 abbrev μ-loop : tie.MeasureT-loop
-μ-loop kernel n i ok₀ j₀ ok j = n - j
+μ-loop rates n i ok₀ j₀ ok j = n - j
 
 loop-holds : tie.Need-loop-holds Inv-loop μ-loop
 unfolding allTo
