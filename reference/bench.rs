@@ -13,6 +13,8 @@ mod entries;
 mod rule;
 #[allow(dead_code)]
 mod run_entry;
+#[allow(dead_code)]
+mod rust_run;
 
 use bench_runs::Simulate;
 use entries::*;

@@ -14,6 +14,7 @@ mod run_entry;
 mod run_fixed;
 mod run_shapes;
 mod run_store;
+mod rust_run;
 mod slices;
 
 use draw::Random;
