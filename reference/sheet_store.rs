@@ -11,17 +11,21 @@ const TEXT: usize = 1500;
 /// The most tries to draw a sheet of a wanted kind.
 const TRIES: usize = 1_000_000;
 
-/// Length and number, the words, the text with / for each line feed.
+/// Bytes, number, words, and the text with / for each line feed.
 fn line(bytes: &[u8], printout: &Printout) -> String {
-    let mut line = format!("{:x} {:x}", bytes.len(), printout.number);
-    for part in bytes.chunks(8) {
+    let word = |part: &[u8]| {
         let mut eight = [0; 8];
         eight[..part.len()].copy_from_slice(part);
-        line.push_str(&format!(" {:x}", u64::from_le_bytes(eight)));
-    }
-    line.push(';');
-    line.push_str(&printout.text.replace('\n', "/"));
-    line
+        format!("{:x}", u64::from_le_bytes(eight))
+    };
+    let words: Vec<String> = bytes.chunks(8).map(word).collect();
+    format!(
+        "{:x};{:x};{};{}",
+        bytes.len(),
+        printout.number,
+        words.join(" "),
+        printout.text.replace('\n', "/")
+    )
 }
 
 /// What a drawn sheet adds: its number, its states, and how many rows it has.

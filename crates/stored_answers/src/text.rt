@@ -46,7 +46,7 @@ fn spelled(word: &[u8]) -> bool
 }
 
 // The number that a word spells, where it fits 64 bits.
-fn number(word: &[u8]) -> Parsed
+pub fn number(word: &[u8]) -> Parsed
     ensures { λ r. ⌜ r ≡ numberOf (now (word .entry)) ⌝ }
 {
     if !spelled(word) {

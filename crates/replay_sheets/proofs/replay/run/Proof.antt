@@ -1,0 +1,19 @@
+-- `replay_sheets::replay::run` is safe and ends.
+use mathlib.Core.Path.{sym}
+use borrow.Author.Needs.{needs}
+use native.Mathlib.Omega.{arith}
+use lib.Seq.{length-take-le}
+use Rattle.replay_sheets.proofs.replay.run.Statement.{statement}
+use Rattle.replay_sheets.proofs.replay.run.Tie as tie
+
+slice-aggregate-run-sheet : tie.Need-slice-aggregate-run-sheet
+slice-aggregate-run-sheet c = sym (length-take-le _ _ (omega arith))
+
+slice-aggregate-run-sheet-2 : tie.Need-slice-aggregate-run-sheet-2
+slice-aggregate-run-sheet-2 c = sym (length-take-le _ _ (omega arith))
+
+pub run-spec : {M : Type 1} → statement M
+run-spec =
+    tie.close
+    (tie.spec
+    slice-aggregate-run-sheet (λ c. search needs) slice-aggregate-run-sheet-2 (λ c κs. search needs) (λ c. search needs) (λ c. search needs))
