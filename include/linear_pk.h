@@ -1,6 +1,7 @@
 /*
  * A linear patient: mammillary kinetics with one to three compartments and an
- * optional depot, its kernel and runs over lists of doses and resets.
+ * optional depot, its kernel, runs over lists of doses and resets, and the
+ * printout of a sheet.
  *
  * Build the archive with `rt staticlib capi` and link target/staticlib/libcapi.a.
  * It needs no heap and no other library; linear_pk_simulate takes 33 KiB of
@@ -31,7 +32,7 @@
  *   30  one advance beyond the budget of propagations
  *   31  a state that is not finite or below 0
  *   32  summed rates that are not finite
- *   40  words that are no events
+ *   40  words that are no events, or bytes that are no sheet
  * Where several hold, the first in the order that each function lists is given.
  * A refusal leaves every slice as it was, but for a run that stopped once begun,
  * which leaves zeros. Cells behind an answer never change.
@@ -131,6 +132,21 @@ uint64_t linear_pk_simulate(const double *kernel, size_t kernel_len,
                             uint8_t *sides, size_t sides_len,
                             double *values, size_t values_len,
                             double *time, size_t *rows, uint64_t *advances);
+
+/* The most bytes of a sheet that is read, and of a printout. */
+#define RIG_SHEET_BYTES 65536
+#define RIG_PRINTOUT_BYTES 46294
+
+/* The run of a sheet, as rig-run prints it: little-endian 64-bit words in, the
+ * lines of the printout out, from the front of out; *length is how many bytes
+ * they are. The reply is the printout's number: 0 where it tells a run that
+ * reached its end, else the number of its `refused` line: 40, 5, 1, 2, 3, 13,
+ * 10, 11, 12, 14 ahead of the run, or 3, 20, 21, 22, 30, 31, 32 in it. 5 stands
+ * for more than 64 events or 256 samples. A propagation word of 0 is 1,000.
+ * Replies 4 where out is too short for the printout: nothing is written then,
+ * and *length is 0. RIG_PRINTOUT_BYTES are enough for every sheet. */
+uint64_t rig_run_sheet(const uint8_t *sheet, size_t sheet_len,
+                       uint8_t *out, size_t out_len, size_t *length);
 
 #ifdef __cplusplus
 }
