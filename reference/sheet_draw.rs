@@ -12,11 +12,11 @@ const CLEARANCE: usize = 0;
 pub const DEPOT: usize = 1;
 const ABSORPTION: usize = 2;
 pub const COUNT: usize = 3;
-const VOLUMES: usize = 4;
+pub const VOLUMES: usize = 4;
 /// Words of the window, and places in its body.
 pub const WINDOW: usize = 9;
 pub const START: usize = 0;
-const END: usize = 1;
+pub const END: usize = 1;
 const RTOL: usize = 2;
 const ATOL: usize = 3;
 const PROPAGATIONS: usize = 4;
@@ -50,7 +50,7 @@ pub fn bytes(words: &[u64]) -> Vec<u8> {
     words.iter().flat_map(|word| word.to_le_bytes()).collect()
 }
 
-fn states(bodies: &Bodies) -> usize {
+pub fn states(bodies: &Bodies) -> usize {
     (bodies.model[COUNT] + bodies.model[DEPOT]) as usize
 }
 
@@ -201,7 +201,7 @@ fn fit(random: &mut Random) -> Bodies {
 }
 
 /// A time in the window, ends included, most of them shared by others.
-fn moment(random: &mut Random, start: f64, end: f64) -> f64 {
+pub fn moment(random: &mut Random, start: f64, end: f64) -> f64 {
     let part = if random.chance(80) {
         random.below(9) as f64 / 8.0
     } else {
@@ -217,7 +217,7 @@ fn moment(random: &mut Random, start: f64, end: f64) -> f64 {
 
 /// An event that the preparation takes. Orders are the places in the list, and
 /// words that a kind lacks hold anything.
-fn event(random: &mut Random, start: f64, end: f64, n: usize, place: u64) -> [u64; EVENT] {
+pub fn event(random: &mut Random, start: f64, end: f64, n: usize, place: u64) -> [u64; EVENT] {
     let time = moment(random, start, end);
     let target = random.below(n) as u64;
     let amount = if random.chance(10) {
