@@ -1,10 +1,12 @@
-//! Times `advance` and whole runs of the C interface beside the Rust's, or
-//! measures the stack that each C entry uses.
+//! Times `advance`, whole runs and sheets of the C interface beside the Rust's,
+//! or measures the stack that each C entry uses.
 //!
 //!     bench [N..]      a table of medians, for these numbers of states (default: 1 2 3 4)
 //!     bench --runs     tables of medians of whole runs
+//!     bench --sheets   tables of medians of sheets, in one process and as programs
 //!     bench --stack    the stack of each entry
 mod bench_runs;
+mod bench_sheets;
 #[allow(dead_code)]
 mod draw;
 #[allow(dead_code)]
@@ -12,15 +14,32 @@ mod entries;
 #[allow(dead_code)]
 mod rule;
 #[allow(dead_code)]
+mod run_draw;
+#[allow(dead_code)]
 mod run_entry;
 #[allow(dead_code)]
 mod rust_run;
+#[allow(dead_code)]
+mod sheet;
+#[allow(dead_code)]
+mod sheet_broken;
+#[allow(dead_code)]
+mod sheet_draw;
+#[allow(dead_code)]
+mod sheet_entry;
+#[allow(dead_code)]
+mod sheet_fixed;
+#[allow(dead_code)]
+mod sheet_run;
+#[allow(dead_code)]
+mod slices;
 
 use bench_runs::Simulate;
 use entries::*;
 use qspquest_modeling::linear_pk::LinearPk;
 use rule::Kernel;
 use run_entry::linear_pk_simulate;
+use sheet_entry::{rig_run_sheet, RunSheet, MOST};
 use std::hint::black_box;
 use std::time::Instant;
 
@@ -274,6 +293,10 @@ extern "C" fn no_simulate(
     0
 }
 
+extern "C" fn no_sheet(_: *const u8, _: usize, _: *mut u8, _: usize, _: *mut usize) -> u64 {
+    0
+}
+
 type New = unsafe extern "C" fn(
     f64,
     *const f64,
@@ -305,8 +328,8 @@ fn depth<F: Copy>(empty: F, entry: F, call: impl Fn(F)) -> usize {
     lowest(empty).saturating_sub(lowest(entry))
 }
 
-/// Each entry on its longest path: 4 states, 60 halvings in `advance`, and in a
-/// run 192 events and 256 samples as well.
+/// Each entry on its longest path: 4 states, 60 halvings in `advance`, in a run
+/// 192 events and 256 samples as well, in a sheet 64 and 256.
 fn stack() {
     // Rates of a few, so that 2^57 takes 60 halvings.
     let (volumes, exchange) = ([1.0, 2.0, 4.0], [1.0, 1.0]);
@@ -410,12 +433,22 @@ fn stack() {
         },
     );
     println!("| linear_pk_simulate | {bytes} |");
+    let sheet = bench_sheets::named("64 infusions and 256 samples");
+    let out = std::cell::RefCell::new(vec![0; MOST]);
+    let bytes = depth(no_sheet as RunSheet, rig_run_sheet as RunSheet, |entry| {
+        black_box(bench_sheets::call(entry, &sheet, &mut out.borrow_mut()));
+    });
+    println!("| rig_run_sheet | {bytes} |");
 }
 
 fn main() {
     let arguments: Vec<String> = std::env::args().skip(1).collect();
     if arguments == ["--runs"] {
         bench_runs::tables();
+        return;
+    }
+    if arguments == ["--sheets"] {
+        bench_sheets::tables();
         return;
     }
     if arguments == ["--stack"] {
@@ -431,7 +464,7 @@ fn main() {
         .filter_map(|word| word.parse().ok())
         .collect();
     if sizes.len() != arguments.len() || sizes.iter().any(|n| !(1..=4).contains(n)) {
-        eprintln!("bench [N..] with N from 1 to 4, bench --runs, or bench --stack");
+        eprintln!("bench [N..] with N from 1 to 4, bench --runs, bench --sheets, or bench --stack");
         std::process::exit(2);
     }
     if sizes.is_empty() {

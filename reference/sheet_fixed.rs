@@ -651,6 +651,22 @@ fn layouts() -> Vec<Fixed> {
     all
 }
 
+/// The longest run: 64 infusions and 256 samples, no two times equal.
+fn full(bodies: Bodies, states: u64) -> Bodies {
+    let mut full = bodies
+        .window(0.0, 1000.0)
+        .set(4, 0)
+        .set(5, 64)
+        .set(6, 514 * states);
+    for i in 0..EVENTS {
+        let time = 1.0 + 2.0 * i as f64;
+        let target = i as u64 % states;
+        full = full.infusion(time, target, 1.0 + i as f64, 400.0 - i as f64 / 4.0);
+    }
+    let samples: Vec<f64> = (0..SAMPLES).map(|i| 0.0625 + 3.5 * i as f64).collect();
+    full.samples(&samples)
+}
+
 /// The limits, from both sides.
 fn long() -> Vec<Fixed> {
     let words_to = |total: usize| {
@@ -661,17 +677,6 @@ fn long() -> Vec<Fixed> {
     };
     let mut longer = bytes(&packed(&words_to(WORDS)));
     longer.push(0);
-    let mut full = whole()
-        .window(0.0, 1000.0)
-        .set(4, 0)
-        .set(5, 64)
-        .set(6, 2056);
-    for i in 0..EVENTS {
-        let time = 1.0 + 2.0 * i as f64;
-        let target = (i % 4) as u64;
-        full = full.infusion(time, target, 1.0 + i as f64, 400.0 - i as f64 / 4.0);
-    }
-    let samples: Vec<f64> = (0..SAMPLES).map(|i| 0.0625 + 3.5 * i as f64).collect();
     vec![
         still()
             .bolus(0.0, 0, 1.0)
@@ -690,10 +695,13 @@ fn long() -> Vec<Fixed> {
         words_to(WORDS).gives("8,192 words", 3),
         words_to(WORDS + 1).gives("8,193 words", 40),
         raw("a byte behind 8,192 words", longer, 40),
-        full.clone()
-            .samples(&samples)
-            .gives("64 infusions and 256 samples", 0),
-        full.samples(&samples)
+        still()
+            .bolus(0.0, 0, 1.0)
+            .events(1361)
+            .gives("8,192 words with 1,361 events", 5),
+        full(whole(), 4).gives("64 infusions and 256 samples", 0),
+        full(still(), 1).gives("64 infusions and 256 samples for one state", 0),
+        full(whole(), 4)
             .set(4, 384)
             .gives("one advance fewer than the longest run has", 30),
     ]
