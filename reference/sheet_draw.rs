@@ -428,8 +428,8 @@ const fn recipe(name: &'static str, number: u64, change: fn(&mut Random, &mut Bo
     }
 }
 
-/// A window of this length from 0 with one state's worth of amounts, and no
-/// event or sample that could be refused first.
+/// A window of this length from 0, and no event or sample that could be refused
+/// first.
 fn quiet(random: &mut Random, bodies: &mut Bodies, length: f64) {
     let start = random.zero();
     set_window(bodies, start, length);
@@ -651,7 +651,7 @@ pub fn spoil(random: &mut Random, bodies: &mut Bodies, most: usize) {
     }
 }
 
-/// Words of 64 bits that are the same in narrower or shifted arithmetic.
+/// The word with high bits set, which narrower or shifted arithmetic would lose.
 pub fn wide(random: &mut Random, word: u64) -> u64 {
     let more = [
         1 << 32,
@@ -762,7 +762,7 @@ pub const NAMED: [&str; 8] = [
     "words of any pattern",
 ];
 
-/// The longest run of a sheet: 64 infusions, 256 samples.
+/// As many events and samples as a sheet can have.
 fn longest(random: &mut Random) -> Bodies {
     let mut bodies = fit(random);
     ample(&mut bodies);
