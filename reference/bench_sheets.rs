@@ -10,7 +10,6 @@ use crate::{batch, median};
 use std::cell::RefCell;
 use std::fs::File;
 use std::hint::black_box;
-use std::io::Write;
 use std::path::{Path, PathBuf};
 use std::process::{Command, Stdio};
 use std::time::Instant;
@@ -123,14 +122,19 @@ impl Point {
 
     fn print(&mut self) {
         let (rust_time, our_time) = (median(&mut self.rust_times), median(&mut self.our_times));
+        // Two places for short times.
+        let us = |time: f64| match time / 1000.0 {
+            short if short < 10.0 => format!("{short:.2}"),
+            long => format!("{long:.1}"),
+        };
         println!(
-            "| {} | {} | {} | {} | {:.1} | {:.1} | {:.2} |",
+            "| {} | {} | {} | {} | {} | {} | {:.2} |",
             self.name,
             self.sheet.len().div_ceil(8),
             self.expected.number,
             self.expected.text.len(),
-            rust_time / 1000.0,
-            our_time / 1000.0,
+            us(rust_time),
+            us(our_time),
             our_time / rust_time
         );
         self.rust_times.clear();
@@ -176,14 +180,17 @@ pub fn tables() {
     println!("programs, from their start to their end");
     println!();
     head();
-    let file = std::env::temp_dir().join(format!("bench-sheet-{}", std::process::id()));
-    for point in &mut points {
-        let mut sheet = File::create(&file).expect("a file");
-        sheet.write_all(&point.sheet).expect("a file");
-        for _ in 0..STARTS {
-            point.start(&programs, &file);
-        }
-        point.print();
+    let folder = std::env::temp_dir().join(format!("bench-sheets-{}", std::process::id()));
+    std::fs::create_dir(&folder).expect("a folder");
+    let file = |at: usize| folder.join(at.to_string());
+    for (at, point) in points.iter().enumerate() {
+        std::fs::write(file(at), &point.sheet).expect("a file");
     }
-    std::fs::remove_file(&file).expect("the file goes");
+    for _ in 0..STARTS {
+        for (at, point) in points.iter_mut().enumerate() {
+            point.start(&programs, &file(at));
+        }
+    }
+    points.iter_mut().for_each(Point::print);
+    std::fs::remove_dir_all(&folder).expect("the folder goes");
 }
