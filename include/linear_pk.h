@@ -4,8 +4,8 @@
  * printout of a sheet.
  *
  * Build the archive with `rt staticlib capi` and link target/staticlib/libcapi.a.
- * It needs no heap and no other library; linear_pk_simulate takes 33 KiB of
- * stack, every other function 4 KiB at most.
+ * It needs no heap and no other library; rig_run_sheet takes 57 KiB of stack,
+ * linear_pk_simulate 34 KiB, every other function 4 KiB at most.
  *
  * States are the depot (if there is one), central, then the peripherals:
  * n is 1 to 4. Amounts, volumes and times are in one coherent set of units.
