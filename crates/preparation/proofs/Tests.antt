@@ -61,6 +61,15 @@ refusal-number r = by-cases r
     by-cases R.TooManyHalvings = omega arith
     by-cases R.AmountNotFinite = omega arith
     by-cases R.ConcentrationNotFinite = omega arith
+    by-cases R.Period = omega arith
+    by-cases R.CycleEvent = omega arith
+    by-cases R.CycleInfusion = omega arith
+    by-cases R.Overlap = omega arith
+    by-cases R.Tolerance = omega arith
+    by-cases R.Pivot = omega arith
+    by-cases R.Candidate = omega arith
+    by-cases R.Scale = omega arith
+    by-cases R.Residual = omega arith
 
 -- a number above 0 is that of the first test that fails
 pub first-refused : (o : Option ℕ) (os : List (Option ℕ)) {c : ℕ} → 1 ≤ c → c ≡ numberOf o → c ≡ numberOf (firstOf (o ∷ os))

@@ -17,10 +17,19 @@ refusalNumber R.Sample = 11
 refusalNumber R.Event = 12
 refusalNumber R.EventBudget = 13
 refusalNumber R.OutputBudget = 14
+refusalNumber R.Period = 15
+refusalNumber R.CycleEvent = 16
+refusalNumber R.CycleInfusion = 17
+refusalNumber R.Overlap = 18
+refusalNumber R.Tolerance = 19
 refusalNumber R.NormNotFinite = 20
 refusalNumber R.TooManyHalvings = 21
 refusalNumber R.AmountNotFinite = 22
 refusalNumber R.ConcentrationNotFinite = 23
+refusalNumber R.Pivot = 33
+refusalNumber R.Candidate = 34
+refusalNumber R.Scale = 35
+refusalNumber R.Residual = 36
 
 -- 0 stands for done
 abbrev pub replyNumber : Reply → ℕ
