@@ -1,0 +1,4 @@
+-- The laws of the folded cycle and of the closed cycle, and their theorems.
+pub mod Results
+pub mod Folds
+pub mod InnerRuns
