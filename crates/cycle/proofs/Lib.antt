@@ -2,3 +2,6 @@
 pub mod Results
 pub mod Folds
 pub mod InnerRuns
+pub mod Scales
+pub mod Residuals
+pub mod Theorems

@@ -1,5 +1,5 @@
 -- What a chain of tests gives: a refusal's number is one of a list's, and what is handed on has a property. Assumes nothing.
-use mathlib.Core.Path.{_≡_, sym, subst}
+use mathlib.Core.Path.{_≡_, refl, sym, subst}
 use Prim.Native.Nat.{ℕ}
 use native.Mathlib.Omega.{arith}
 use mathlib.Core.Bool.{Bool, true, false, _||_}
@@ -32,20 +32,17 @@ gives-last cs P true c a h k = k tt
 gives-last cs P false c a h k = h
 
 -- ---- read off
+no-value : {A : Type 0} {c : ℕ} {a : A} → refused c ≡ done a → ⊥
+no-value q = let z : _≡_ {A = ℕ} 0 1 = cc in omega arith
+
 module _ {A : Type 0} (cs : List ℕ) (P : A → Type 0) where
   pub gives-done : (r : Result A) (a : A) → Gives cs P r → r ≡ done a → P a
-  gives-done (refused c) a h q = let z : _≡_ {A = ℕ} 0 1 = cc in absurd (no z)
-    where
-      no : _≡_ {A = ℕ} 0 1 → ⊥
-      no z = omega arith
+  gives-done (refused c) a h q = absurd (no-value q)
   gives-done (done x) a h q = subst P (let e : x ≡ a = cc in e) h
 
   pub gives-number : (r : Result A) (c : ℕ) → Gives cs P r → r ≡ refused c → T (oneOf c cs)
   gives-number (refused d) c h q = subst (λ (x : ℕ). T (oneOf x cs)) (let e : d ≡ c = cc in e) h
-  gives-number (done x) c h q = let z : _≡_ {A = ℕ} 0 1 = cc in absurd (no z)
-    where
-      no : _≡_ {A = ℕ} 0 1 → ⊥
-      no z = omega arith
+  gives-number (done x) c h q = absurd (no-value (sym q))
 
 -- ---- with times
 abbrev pub Hands : {A : Type 0} → List ℕ → (A → Type 0) → Timed A → Type 0
@@ -61,9 +58,22 @@ module _ {A B : Type 0} (cs : List ℕ) (Q : B → Type 0) where
   hands-test true c a f h k = k tt
   hands-test false c a f h k = h
 
+pub hands-map : {A : Type 0} (cs : List ℕ) (P Q : A → Type 0) (r : Timed A) → ((a : A) → P a → Q a) → Hands cs P r → Hands cs Q r
+hands-map cs P Q (stopped c t) f h = h
+hands-map cs P Q (got a) f h = f a h
+
+-- what is handed on, and that it is
+pub hands-self : {A : Type 0} (cs : List ℕ) (P : A → Type 0) (r : Timed A) → Hands cs P r → Hands cs (λ (a : A). (r ≡ got a) × P a) r
+hands-self cs P (stopped c t) h = h
+hands-self cs P (got a) h = (refl, h)
+
 pub hands-last : {A : Type 0} (cs : List ℕ) (P : A → Type 0) (b : Bool) (c : ℕ) (a : A) → T (oneOf c cs) → (T b → P a) → Hands cs P (unlessFails b c a)
 hands-last cs P true c a h k = k tt
 hands-last cs P false c a h k = h
+
+pub test-passes : {A : Type 0} (b : Bool) (c : ℕ) (a : A) → T b → unlessFails b c a ≡ got a
+test-passes true c a h = refl
+test-passes false c a h = absurd h
 
 -- a refusal's number out of one list is one of another's
 pub among : (c : ℕ) (ks cs : List ℕ) → T (all (λ (k : ℕ). oneOf k cs) ks) → T (oneOf c ks) → T (oneOf c cs)
@@ -78,17 +88,17 @@ pub hands-untimed : {A : Type 0} (ks cs : List ℕ) (P : A → Type 0) (r : Resu
 hands-untimed ks cs P (refused c) h p = among c ks cs h p
 hands-untimed ks cs P (done a) h p = p
 
+pub no-answer : {A : Type 0} {c : ℕ} {t : Float} {a : A} → stopped c t ≡ got a → ⊥
+no-answer q = let z : _≡_ {A = ℕ} 0 1 = cc in omega arith
+
+pub same-answer : {A : Type 0} {a b : A} → got a ≡ got b → a ≡ b
+same-answer q = cc
+
 module _ {A : Type 0} (cs : List ℕ) (P : A → Type 0) where
   pub hands-got : (r : Timed A) (a : A) → Hands cs P r → r ≡ got a → P a
-  hands-got (stopped c t) a h q = let z : _≡_ {A = ℕ} 0 1 = cc in absurd (no z)
-    where
-      no : _≡_ {A = ℕ} 0 1 → ⊥
-      no z = omega arith
-  hands-got (got x) a h q = subst P (let e : x ≡ a = cc in e) h
+  hands-got (stopped c t) a h q = absurd (no-answer q)
+  hands-got (got x) a h q = subst P (same-answer q) h
 
   pub hands-number : (r : Timed A) (c : ℕ) (t : Float) → Hands cs P r → r ≡ stopped c t → T (oneOf c cs)
   hands-number (stopped d u) c t h q = subst (λ (x : ℕ). T (oneOf x cs)) (let e : d ≡ c = cc in e) h
-  hands-number (got x) c t h q = let z : _≡_ {A = ℕ} 0 1 = cc in absurd (no z)
-    where
-      no : _≡_ {A = ℕ} 0 1 → ⊥
-      no z = omega arith
+  hands-number (got x) c t h q = absurd (no-answer (sym q))
