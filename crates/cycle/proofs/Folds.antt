@@ -8,7 +8,7 @@ use mathlib.Core.List.{List, [], _∷_, _++_}
 use lib.Pow.{pow-pos}
 use lib.Dec.{T, leb, ltb, eqb, ltb→lt, eqb·suc-zero}
 use lib.ListN.{length, length-append}
-use lib.Ieee.{Float, nan, inf, fin, Format, binary64, prec, low, emax, up, down, round, add, sub, div, rem, lt, le, fits, unlike}
+use lib.Ieee.{Float, nan, inf, fin, Format, binary64, prec, low, emax, up, down, round, add, sub, div, lt, le, fits, unlike}
 use lib.Ieee.Fits.{up-pos}
 use lib.Ieee.Exact.{HasValue, round-exact}
 use lib.Ieee.Scale.{finite}
@@ -22,7 +22,7 @@ use Rattle.protocol.specs.First as F
 use Rattle.protocol.specs.Events.{time, target}
 use Rattle.protocol.specs.Prepare.{windowPasses, within, sameReset, eventPasses, eventsPass, reckoned, prepare}
 use Rattle.protocol.proofs.ListLaws.{both, and-T}
-use Rattle.cycle.specs.Fold.{period, cyclePasses, countPasses, timePasses, infusionPasses, stopping, stopOf, whole, piece, headOf, tail, parts, wholes, lasting, pieces, withEvent, withEvents, validated, fold}
+use Rattle.cycle.specs.Fold.{period, cyclePasses, countPasses, timePasses, infusionPasses, stopping, stopOf, whole, piece, tail, parts, wholes, lasting, pieces, withEvent, withEvents, validated, fold}
 use Rattle.cycle.specs.Closed.{divided, zeroed, homogeneous}
 use Rattle.cycle.specs.FoldedCycle.{budgetNumber, EveryFold}
 use Rattle.cycle.proofs.Results.{Gives, gives-then, gives-test, gives-last, gives-done, gives-number}
@@ -45,23 +45,19 @@ module _ (w : Window) (t : Float) (i : ℕ) (r : Float) where
 
   parts-few : (left : Float) → Few 2 w t (parts w t i r left)
   unfolding parts
-  parts-few left = on (lt plusZero left) (tail-few (sub binary64 left (headOf w t left)))
+  parts-few left = on (lt plusZero left) _ _ (tail-few _)
     where
-      rest : List Event
-      rest = tail w i r (sub binary64 left (headOf w t left))
-
-      on : (b : Bool) → Few 1 w t rest → Few 2 w t (cond b (piece t i r (headOf w t left) ∷ rest) [])
-      on true h = record { few = omega arith; times = λ s f. and-T (fits binary64 t) (all timeFits rest) f (h .times s f) }
-      on false h = record { few = omega arith; times = λ _ _. tt }
+      on : (b : Bool) (h : Float) (ps : List Event) → Few 1 w t ps → Few 2 w t (cond b (piece t i r h ∷ ps) [])
+      on true h ps k = record { few = omega arith; times = λ s f. and-T (fits binary64 t) (all timeFits ps) f (k .times s f) }
+      on false h ps k = record { few = omega arith; times = λ _ _. tt }
 
   wholes-few : (left c : Float) → Few 3 w t (wholes w t i r left c)
   unfolding wholes
-  wholes-few left c = on (le one c) (parts-few (rem binary64 left (period w))) (parts-few left)
+  wholes-few left c = on (le one c) _ _ (parts-few _) (parts-few left)
     where
-      on : (b : Bool) → Few 2 w t (parts w t i r (rem binary64 left (period w))) → Few 2 w t (parts w t i r left)
-          → Few 3 w t (cond b (whole w i r c ∷ parts w t i r (rem binary64 left (period w))) (parts w t i r left))
-      on true h k = record { few = omega arith; times = λ s f. and-T (fits binary64 (w .start)) (all timeFits (parts w t i r (rem binary64 left (period w)))) s (h .times s f) }
-      on false h k = record { few = omega arith; times = k .times }
+      on : (b : Bool) (ps qs : List Event) → Few 2 w t ps → Few 2 w t qs → Few 3 w t (cond b (whole w i r c ∷ ps) qs)
+      on true ps qs h k = record { few = omega arith; times = λ s f. and-T (fits binary64 (w .start)) (all timeFits ps) s (h .times s f) }
+      on false ps qs h k = record { few = omega arith; times = k .times }
 
 -- ---- the fold's numbers
 abbrev pub folding : List ℕ
