@@ -1,5 +1,6 @@
 // Gaussian elimination with partial pivoting and back substitution, in arrays of which the leading n by n part is in use.
 mod pivot;
+mod table;
 
 use matrix::STATES;
 ghost use mathlib.Core.Path.{_≡_};
