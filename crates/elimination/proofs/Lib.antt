@@ -1,2 +1,4 @@
 pub mod Pivots
 pub mod Tables
+pub mod Exchanges
+pub mod Substitutions

@@ -6,14 +6,15 @@ use Prim.Native.Nat.{ℕ, _≤_, _<_}
 use native.Mathlib.Omega.{arith}
 use lib.Dec.{T, ltb, eqb, ltb→lt}
 use lib.ListN.{replicate, length-replicate, take, getD}
+use lib.Seq.{getD-take}
 use lib.Ieee.{Float, nan, binary64, sub, mul, div, neg}
 use Rattle.binary64.specs.Doubles.{plusZero, one}
 use Rattle.matrix.specs.Matrix.{Matrix, cell, at, table, tabulate}
 use Rattle.matrix.specs.Arrays.{lead, updated}
-use Rattle.cycle.specs.Elimination.{systemCell, factor, reducedCell}
+use Rattle.cycle.specs.Elimination.{systemCell, factor, reducedCell, reducedRight}
 use Rattle.elimination.specs.declared.table.Cells.{Cells}
 use Rattle.elimination.specs.declared.table.Cells.the-variants as C
-use Rattle.elimination.specs.Tables.{cellOf}
+use Rattle.elimination.specs.Tables.{held, cellOf}
 use Rattle.matrix.proofs.Filled.{tabulate-at}
 use Rattle.matrix.proofs.Updated.{updated-at}
 use Rattle.matrix.proofs.Rows.{table-cong, lead-at}
@@ -33,6 +34,15 @@ module _ (n : ℕ) (a : Matrix) where
       on true true f = rw (factor-lead k i (f tt) p, lead-at n a k j (f tt) q)
       on true false f = refl
       on false c f = refl
+
+  pub right-lead : (b : List Float) (k i : ℕ) → i < n → reducedRight (held n a b) k i ≡ reducedRight (record { matrix = a; right = b }) k i
+  unfolding reducedRight
+  right-lead b k i p = rw (getD-take n b i nan p) (on (ltb k i) (λ t. omega (arith, ltb→lt k i t)))
+    where
+      on : (t : Bool) → (T t → k < n)
+          → cond t (sub binary64 (cell b i) (mul binary64 (factor (lead n a) k i) (cell (take n b) k))) (cell b i) ≡ cond t (sub binary64 (cell b i) (mul binary64 (factor a k i) (cell b k))) (cell b i)
+      on true f = rw (factor-lead k i (f tt) p, getD-take n b k nan (f tt))
+      on false f = refl
 
   -- the rows of an array are filled
   pub table-made :

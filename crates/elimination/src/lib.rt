@@ -1,11 +1,22 @@
 // Gaussian elimination with partial pivoting and back substitution, in arrays of which the leading n by n part is in use.
 mod pivot;
+mod right;
+mod substitution;
 mod table;
 
 use matrix::STATES;
+use refusal::Refusal;
+use refusal::Reply;
+use table::Cells;
 ghost use mathlib.Core.Path.{_≡_};
+ghost use mathlib.Core.List.{[]};
 ghost use Prim.Native.Nat.{_≤_, _<_};
-ghost use Rattle.matrix.specs.Matrix.{at as atOf};
+ghost use lib.ListN.{length, take};
+ghost use Rattle.matrix.specs.Matrix.{at as atOf, table as tableOf};
+ghost use Rattle.matrix.specs.Arrays.{lead};
+ghost use Rattle.refusal.specs.Numbers.{resultOf};
+ghost use Rattle.cycle.specs.Elimination.{swapped, systemCell, solve as solveOf};
+ghost use Rattle.elimination.specs.Tables.{held};
 
 // The entry at row i, column j.
 fn at(a: &[[f64; STATES]; STATES], i: usize, j: usize) -> f64
@@ -13,4 +24,29 @@ fn at(a: &[[f64; STATES]; STATES], i: usize, j: usize) -> f64
     ensures { λ r. ⌜ r ≡ atOf (now (a .entry)) i j ⌝ }
 {
     a[i][j]
+}
+
+// Rows k and p exchanged.
+fn exchanged(a: [[f64; STATES]; STATES], k: usize, p: usize) -> [[f64; STATES]; STATES]
+    requires { ⌜ (k < 4) × (p < 4) ⌝ }
+    ensures { λ r. ⌜ (r ≡ swapped [] k p a) × (length a ≡ 4) ⌝ }
+{
+    let mut rows = a;
+    rows[k] = a[p];
+    rows[p] = a[k];
+    rows
+}
+
+// The system of a cycle: identity minus the columns, of which columns has one in each row.
+pub fn system(n: usize, columns: &[[f64; STATES]; STATES]) -> [[f64; STATES]; STATES]
+    requires { ⌜ n ≤ 4 ⌝ }
+    ensures { λ r. ⌜ lead n r ≡ tableOf n (systemCell (lead n (now (columns .entry)))) ⌝ }
+{
+    table::table(Cells::System, columns, n)
+}
+
+// The amounts, where there is a reply of done.
+pub struct Solution {
+    pub reply: Reply,
+    pub amounts: [f64; STATES],
 }
