@@ -1,10 +1,10 @@
 -- One amount more of back substitution.
-use mathlib.Core.Path.{_≡_, refl, sym, ap₂, _∙_}
+use mathlib.Core.Path.{_≡_, ap₂, _∙_}
 use mathlib.Core.List.{List}
-use Prim.Native.Nat.{ℕ, suc, _+_, _-_, _≤_, _<_}
+use Prim.Native.Nat.{ℕ, suc, _+_, _-_, _<_}
 use native.Mathlib.Omega.{arith}
 use native.Mathlib.Numerals.{add-one}
-use lib.ListN.{set, take, getD}
+use lib.ListN.{set, take}
 use lib.Seq.{take-set-lt, getD-take}
 use lib.Ieee.{Float, nan, binary64, add, sub, mul, div}
 use Rattle.matrix.specs.Matrix.{Matrix, cell, at, sumTo}

@@ -1,14 +1,14 @@
 -- A table's cells are read of the leading part alone.
 use mathlib.Core.Path.{_≡_, refl, sym, ap, ap₂, _∙_}
-use mathlib.Core.Bool.{Bool, true, false, not, cond, _&&_}
+use mathlib.Core.Bool.{Bool, true, false, cond, _&&_}
 use mathlib.Core.List.{List, []}
 use Prim.Native.Nat.{ℕ, _≤_, _<_}
 use native.Mathlib.Omega.{arith}
-use lib.Dec.{T, ltb, eqb, ltb→lt}
-use lib.ListN.{replicate, length-replicate, take, getD}
+use lib.Dec.{T, ltb, ltb→lt}
+use lib.ListN.{replicate, take}
 use lib.Seq.{getD-take}
-use lib.Ieee.{Float, nan, binary64, sub, mul, div, neg}
-use Rattle.binary64.specs.Doubles.{plusZero, one}
+use lib.Ieee.{Float, nan, binary64, sub, mul, div}
+use Rattle.binary64.specs.Doubles.{plusZero}
 use Rattle.matrix.specs.Matrix.{Matrix, cell, at, table, tabulate}
 use Rattle.matrix.specs.Arrays.{lead, updated}
 use Rattle.cycle.specs.Elimination.{systemCell, factor, reducedCell, reducedRight}

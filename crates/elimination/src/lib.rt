@@ -50,3 +50,31 @@ pub struct Solution {
     pub reply: Reply,
     pub amounts: [f64; STATES],
 }
+
+// The amounts x of matrix·x = right, column by column and then from the last amount on.
+pub fn solve(n: usize, matrix: [[f64; STATES]; STATES], right: [f64; STATES]) -> Solution
+    requires { ⌜ n ≤ 4 ⌝ }
+    ensures { λ r. ⌜ resultOf (r .reply) (take n (r .amounts)) ≡ solveOf n (record { matrix = lead n matrix; right = take n right }) ⌝ }
+{
+    let least = pivot::least(&matrix, n);
+    let mut a = matrix;
+    let mut b = right;
+    for k in 0..n {
+        let p = pivot::row(&a, n, k);
+        if !pivot::passes(least, at(&a, p, k)) {
+            return Solution {
+                reply: Reply::Refused(Refusal::Pivot),
+                amounts: [0.0f64; STATES],
+            };
+        }
+        let rows = exchanged(a, k, p);
+        let side = right::reduced(&rows, right::exchanged(b, k, p), n, k);
+        let next = table::table(Cells::Reduced(k), &rows, n);
+        a = next;
+        b = side;
+    }
+    Solution {
+        reply: Reply::Done,
+        amounts: substitution::solved(&a, b, n),
+    }
+}

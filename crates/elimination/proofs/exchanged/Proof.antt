@@ -1,5 +1,5 @@
 -- `elimination::exchanged` meets its contract.
-use mathlib.Core.Path.{_≡_, refl}
+use mathlib.Core.Path.{refl}
 use borrow.Author.Needs.{needs}
 use Rattle.cycle.specs.Elimination.{swapped}
 use Rattle.elimination.proofs.exchanged.Statement.{statement}

@@ -1,5 +1,4 @@
 -- `elimination::pivot::larger` meets its contract.
-use mathlib.Core.Path.{_≡_, refl}
 use borrow.Author.Needs.{needs}
 use Rattle.elimination.proofs.pivot.larger.Statement.{statement}
 use Rattle.elimination.proofs.pivot.larger.Tie as tie

@@ -1,6 +1,4 @@
 -- `elimination::pivot::passes` meets its contract.
-use mathlib.Core.Path.{_≡_, refl, ap₂}
-use mathlib.Core.Bool.{_&&_}
 use borrow.Author.Needs.{needs}
 use Rattle.cycle.specs.Elimination.{pivotPasses}
 use Rattle.elimination.proofs.pivot.passes.Statement.{statement}

@@ -1,5 +1,5 @@
 -- `elimination::substitution::solved` meets its contract. The invariant: the last d amounts are solved.
-use mathlib.Core.Path.{_≡_, refl}
+use mathlib.Core.Path.{_≡_}
 use borrow.Author.Needs.{needs}
 use native.Mathlib.Omega.{arith}
 use native.Mathlib.Nat.{le-antisymm}

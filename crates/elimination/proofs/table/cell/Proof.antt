@@ -1,5 +1,4 @@
 -- `elimination::table::cell` meets its contract.
-use mathlib.Core.Path.{_≡_, refl}
 use borrow.Author.Needs.{needs}
 use Rattle.elimination.proofs.table.cell.Statement.{statement}
 use Rattle.elimination.proofs.table.cell.Tie as tie

@@ -1,5 +1,4 @@
 -- `elimination::table::factor` meets its contract.
-use mathlib.Core.Path.{_≡_, refl}
 use borrow.Author.Needs.{needs}
 use Rattle.cycle.specs.Elimination.{factor}
 use Rattle.elimination.proofs.table.factor.Statement.{statement}

@@ -1,5 +1,4 @@
 -- `elimination::table::system_cell` meets its contract.
-use mathlib.Core.Path.{_≡_, refl}
 use borrow.Author.Needs.{needs}
 use borrow.Author.Tests.{eq-eqb, ne-eqb}
 use lib.Ieee.{ofBits}
