@@ -2,6 +2,7 @@
 pub mod Results
 pub mod Folds
 pub mod InnerRuns
+pub mod Candidates
 pub mod Scales
 pub mod Residuals
 pub mod Theorems
