@@ -1,4 +1,5 @@
 -- The laws of the folded cycle and of the closed cycle, and their theorems.
+pub mod Rounding
 pub mod Results
 pub mod Folds
 pub mod InnerRuns
