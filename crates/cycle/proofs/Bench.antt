@@ -49,9 +49,6 @@ eight = fin false 1 (pos 3)
 abbrev sixteen : Float
 sixteen = fin false 1 (pos 4)
 
-abbrev twenty : Float
-twenty = fin false 5 (pos 2)
-
 -- the largest double
 abbrev most : Float
 most = fin false (2 ^ 53 - 1) (pos 971)
