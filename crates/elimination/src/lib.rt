@@ -16,7 +16,6 @@ ghost use Rattle.matrix.specs.Matrix.{at as atOf, table as tableOf};
 ghost use Rattle.matrix.specs.Arrays.{lead};
 ghost use Rattle.refusal.specs.Numbers.{resultOf};
 ghost use Rattle.cycle.specs.Elimination.{swapped, systemCell, solve as solveOf};
-ghost use Rattle.elimination.specs.Tables.{held};
 
 // The entry at row i, column j.
 fn at(a: &[[f64; STATES]; STATES], i: usize, j: usize) -> f64
