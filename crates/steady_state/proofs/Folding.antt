@@ -206,7 +206,6 @@ pub promised-refused :
 promised-refused rs ws x a b q e = promised (folds-refused 192 rs ws x a b q e) (q .1 ∙ ap (λ (o : Result (List Event)). length (valueOr o [])) e)
 
 pub promised-done :
-    {most : ℕ} {rs : List (List Float)} {ws : List (List ℕ)} {r : Folding} {u o : Result (List Event)} → Folds most rs ws r u → most ≤ 192 → r .reply ≡ Done → done (packed rs ws (r .count)) ≡ o
+    (rs : List (List Float)) (ws : List (List ℕ)) (r : Folding) {o : Result (List Event)} → length rs ≡ 192 → length ws ≡ 192 → r .count ≤ 192 → r .reply ≡ Done → done (packed rs ws (r .count)) ≡ o
     → (resultOf (r .reply) (packed rs ws (r .count)) ≡ o) × ((r .count ≡ length (valueOr o [])) × ((r .count ≤ 192) × (length rs ≡ 192) × (length ws ≡ 192)))
-promised-done {rs = rs} {ws} {r} f l q e =
-    promised (folds-done 192 rs ws r (f .reals) (f .words) q (omega (arith, f .room)) e) (sym (packed-length rs ws (r .count)) ∙ ap (λ (o : Result (List Event)). length (valueOr o [])) e)
+promised-done rs ws r a b l q e = promised (folds-done 192 rs ws r a b q l e) (sym (packed-length rs ws (r .count)) ∙ ap (λ (o : Result (List Event)). length (valueOr o [])) e)

@@ -1,4 +1,5 @@
 // The entry.
+use crate::fold;
 use carryover::Folding;
 use events::EVENTS;
 use linear_pk::LinearPk;
@@ -7,7 +8,6 @@ use protocol::Event;
 use protocol::Window;
 use refusal::Refusal;
 use refusal::Reply;
-use crate::fold;
 ghost use mathlib.Core.Path.{_≡_};
 ghost use Prim.Native.Nat.{_≤_, _<_};
 ghost use lib.ListN.{getD};

@@ -75,7 +75,17 @@ fn pieces(
             amount,
             duration,
         } => carryover::infusion(
-            window, reals, words, count, time, target, amount, duration, out_reals, out_words, at,
+            window,
+            reals,
+            words,
+            count,
+            time,
+            target,
+            amount,
+            duration,
+            out_reals,
+            out_words,
+            at,
         ),
         Event::Reset {
             time: _,
@@ -106,9 +116,7 @@ fn with_event(
     if !time_passes(window, events::time_of(event)) {
         return carryover::refused(Refusal::CycleEvent);
     }
-    let folding = pieces(
-        window, reals, words, count, event, out_reals, out_words, at,
-    );
+    let folding = pieces(window, reals, words, count, event, out_reals, out_words, at);
     let reply = folding.reply;
     match reply {
         Reply::Refused(refusal) => carryover::refused(refusal),
@@ -136,9 +144,7 @@ fn with_events(
 {
     let mut at = 0usize;
     for i in 0..count {
-        let folding = with_event(
-            window, reals, words, count, i, out_reals, out_words, at,
-        );
+        let folding = with_event(window, reals, words, count, i, out_reals, out_words, at);
         let reply = folding.reply;
         match reply {
             Reply::Refused(refusal) => {

@@ -1,7 +1,6 @@
 -- `steady_state::fold::cycle_passes` meets its contract.
 use mathlib.Core.Path.{_≡_, refl}
 use borrow.Author.Needs.{needs}
-use native.Mathlib.Omega.{arith}
 use Rattle.cycle.specs.Fold.{cyclePasses}
 use Rattle.steady_state.proofs.fold.cycle_passes.Statement.{statement}
 use Rattle.steady_state.proofs.fold.cycle_passes.Tie as tie

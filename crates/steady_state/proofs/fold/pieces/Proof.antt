@@ -1,7 +1,6 @@
 -- `steady_state::fold::pieces` meets its contract.
 use mathlib.Core.Path.{_≡_, refl}
 use borrow.Author.Needs.{needs}
-use native.Mathlib.Omega.{arith}
 use Rattle.carryover.proofs.Appending.{replies-same}
 use Rattle.steady_state.proofs.Folding.{bolus-copied, reset-copied}
 use Rattle.steady_state.proofs.fold.pieces.Statement.{statement}

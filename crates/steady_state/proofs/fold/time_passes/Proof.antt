@@ -1,7 +1,6 @@
 -- `steady_state::fold::time_passes` meets its contract.
 use mathlib.Core.Path.{_≡_, refl}
 use borrow.Author.Needs.{needs}
-use native.Mathlib.Omega.{arith}
 use Rattle.cycle.specs.Fold.{timePasses}
 use Rattle.steady_state.proofs.fold.time_passes.Statement.{statement}
 use Rattle.steady_state.proofs.fold.time_passes.Tie as tie
