@@ -23,7 +23,7 @@ loop-holds c = (omega arith, refl)
 
 loop-again : tie.Need-loop-again Inv-loop μ-loop
 unfolding allTo
-loop-again c = (omega arith, rw add-one cc)
+loop-again c = (omega arith, rw (add-one, c .before .before .loop .inv .1, c .row-finite .ensures))
 
 returns : tie.Need-returns Inv-loop μ-loop
 unfolding allFinite
