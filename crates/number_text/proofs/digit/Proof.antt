@@ -1,9 +1,9 @@
--- `printout::number::digit` meets its contract.
+-- `number_text::digit` meets its contract.
 use borrow.Author.Tests.{lt-ltb, le-ltb}
-use Rattle.printout.specs.Printout.{glyph}
+use Rattle.number_text.specs.Digits.{glyph}
 use borrow.Author.Needs.{needs}
-use Rattle.printout.proofs.number.digit.Statement.{statement}
-use Rattle.printout.proofs.number.digit.Tie as tie
+use Rattle.number_text.proofs.digit.Statement.{statement}
+use Rattle.number_text.proofs.digit.Tie as tie
 
 returns : tie.Need-returns
 unfolding glyph

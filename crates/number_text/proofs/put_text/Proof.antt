@@ -1,13 +1,13 @@
--- `printout::number::put_text` meets its contract. The invariant: the first i bytes are written.
+-- `number_text::put_text` meets its contract. The invariant: the first i bytes are written.
 use mathlib.Core.Path.{_≡_, refl, ap, _∙_}
 use native.Mathlib.Omega.{arith}
 use Prim.Native.Nat.{_-_, _≤_}
 use lib.ListN.{length, take, length-set}
 use lib.Seq.{sets, take-all}
-use Rattle.printout.proofs.Writing.{sets-take}
+use Rattle.number_text.proofs.Writing.{sets-take}
 use borrow.Author.Needs.{needs}
-use Rattle.printout.proofs.number.put_text.Statement.{statement}
-use Rattle.printout.proofs.number.put_text.Tie as tie
+use Rattle.number_text.proofs.put_text.Statement.{statement}
+use Rattle.number_text.proofs.put_text.Tie as tie
 
 abbrev Inv-loop : tie.InvT-loop
 Inv-loop out₀ at text i₀ out i = (i ≤ length text) × (length out ≡ length out₀) × (out ≡ sets out₀ at (take i text))

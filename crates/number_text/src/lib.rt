@@ -2,8 +2,8 @@
 ghost use mathlib.Core.Path.{_≡_};
 ghost use Prim.Native.Nat.{_+_, _≤_, _<_};
 ghost use lib.ListN.{length};
-ghost use Rattle.printout.specs.Printout.{glyph, digits, places as placesOf, decimal, bitsOf, doubleText};
-ghost use Rattle.printout.specs.Cells.{Wrote};
+ghost use Rattle.number_text.specs.Digits.{glyph, digits, places as placesOf, decimal, bitsOf, doubleText};
+ghost use Rattle.number_text.specs.Written.{Wrote};
 
 // The code of a digit.
 fn digit(d: u64) -> u8

@@ -1,8 +1,8 @@
--- `printout::number::put_bits` meets its contract.
-use Rattle.printout.specs.Printout.{doubleText, hexadecimal}
+-- `number_text::put_bits` meets its contract.
+use Rattle.number_text.specs.Digits.{doubleText, hexadecimal}
 use borrow.Author.Needs.{needs}
-use Rattle.printout.proofs.number.put_bits.Statement.{statement}
-use Rattle.printout.proofs.number.put_bits.Tie as tie
+use Rattle.number_text.proofs.put_bits.Statement.{statement}
+use Rattle.number_text.proofs.put_bits.Tie as tie
 
 returns : tie.Need-returns
 unfolding doubleText hexadecimal

@@ -1,12 +1,12 @@
--- `printout::number::places` meets its contract. The invariant: the places of what is left, and those that went before, are all.
+-- `number_text::places` meets its contract. The invariant: the places of what is left, and those that went before, are all.
 use mathlib.Core.Path.{_≡_, refl}
 use native.Mathlib.Omega.{arith}
 use Prim.Native.Nat.{_+_, _≤_}
-use Rattle.printout.specs.Printout.{places}
-use Rattle.printout.proofs.Lengths.{places-end, places-last, places-more}
+use Rattle.number_text.specs.Digits.{places}
+use Rattle.number_text.proofs.Counts.{places-end, places-last, places-more}
 use borrow.Author.Needs.{needs}
-use Rattle.printout.proofs.number.places.Statement.{statement}
-use Rattle.printout.proofs.number.places.Tie as tie
+use Rattle.number_text.proofs.places.Statement.{statement}
+use Rattle.number_text.proofs.places.Tie as tie
 
 abbrev Inv-loop : tie.InvT-loop
 Inv-loop word left₀ most₀ left most = (most ≤ 19) × (19 + places most left ≡ most + places 19 word)

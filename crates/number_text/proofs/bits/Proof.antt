@@ -1,10 +1,10 @@
--- `printout::number::bits` meets its contract.
+-- `number_text::bits` meets its contract.
 use lib.Ieee.{toBits}
 use Rattle.binary64.proofs.Tests.{is-nan, is-real}
-use Rattle.printout.specs.Printout.{bitsOf}
+use Rattle.number_text.specs.Digits.{bitsOf}
 use borrow.Author.Needs.{needs}
-use Rattle.printout.proofs.number.bits.Statement.{statement}
-use Rattle.printout.proofs.number.bits.Tie as tie
+use Rattle.number_text.proofs.bits.Statement.{statement}
+use Rattle.number_text.proofs.bits.Tie as tie
 
 returns : tie.Need-returns
 unfolding bitsOf toBits

@@ -1,10 +1,10 @@
--- `printout::number::put_decimal` meets its contract.
+-- `number_text::put_decimal` meets its contract.
 use native.Mathlib.Omega.{arith}
-use Rattle.printout.specs.Printout.{decimal}
-use Rattle.printout.proofs.Lengths.{decimal-length}
+use Rattle.number_text.specs.Digits.{decimal}
+use Rattle.number_text.proofs.Counts.{decimal-length}
 use borrow.Author.Needs.{needs}
-use Rattle.printout.proofs.number.put_decimal.Statement.{statement}
-use Rattle.printout.proofs.number.put_decimal.Tie as tie
+use Rattle.number_text.proofs.put_decimal.Statement.{statement}
+use Rattle.number_text.proofs.put_decimal.Tie as tie
 
 put-digits-requires : tie.Need-put-digits-requires
 put-digits-requires c κs =

@@ -1,15 +1,15 @@
--- `printout::number::put_digits` meets its contract. The invariant: the digits that are left, written where they belong, give the whole.
+-- `number_text::put_digits` meets its contract. The invariant: the digits that are left, written where they belong, give the whole.
 use mathlib.Core.Path.{_≡_, refl, sym, ap, _∙_}
 use native.Mathlib.Nat.{mod-lt}
 use native.Mathlib.Omega.{arith}
 use Prim.Native.Nat.{ℕ, _+_, _≤_}
 use lib.ListN.{length, length-set}
 use lib.Seq.{sets}
-use Rattle.printout.specs.Printout.{digits}
-use Rattle.printout.proofs.Writing.{digits-length, digits-step, digits-done}
+use Rattle.number_text.specs.Digits.{digits}
+use Rattle.number_text.proofs.Writing.{digits-length, digits-step, digits-done}
 use borrow.Author.Needs.{needs}
-use Rattle.printout.proofs.number.put_digits.Statement.{statement}
-use Rattle.printout.proofs.number.put_digits.Tie as tie
+use Rattle.number_text.proofs.put_digits.Statement.{statement}
+use Rattle.number_text.proofs.put_digits.Tie as tie
 
 abbrev Inv-loop : tie.InvT-loop
 Inv-loop out₀ at base count word left₀ i₀ out left i = (i ≤ count) × (length out ≡ length out₀) × (sets out at (digits base i left) ≡ sets out₀ at (digits base count word))
