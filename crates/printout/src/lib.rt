@@ -2,6 +2,7 @@
 mod number;
 mod row;
 
+pub use number::bits;
 use number::places;
 use number::put_bits;
 use number::put_decimal;
