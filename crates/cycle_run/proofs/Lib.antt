@@ -1,0 +1,3 @@
+-- The laws of the inner runs.
+pub mod Inner
+pub mod Zeroed
