@@ -1,21 +1,19 @@
 -- An inner run: its room, and where it comes to from what the run's code leaves.
 use mathlib.Core.Path.{_≡_, refl, sym, ap, _∙_, subst}
 use mathlib.Core.Bool.{cond}
-use mathlib.Core.List.{List, [], _∷_, _++_}
-use Prim.Native.Nat.{ℕ, _+_, _*_, _≤_}
+use mathlib.Core.List.{List, []}
+use Prim.Native.Nat.{ℕ, _≤_}
 use native.Mathlib.Nat.{le-trans, mul-le-mul-left, mul-le-mul-right}
 use native.Mathlib.Omega.{arith}
-use lib.Dec.{T}
 use lib.ListN.{length, take}
 use lib.Ieee.{Float}
-use Rattle.binary64.specs.Lists.{amountsPass}
 use Rattle.matrix.specs.Exponential.{scheme}
-use Rattle.linear_pk.specs.LinearPk.{stateCount, advance}
+use Rattle.linear_pk.specs.LinearPk.{advance}
 use Rattle.linear_pk.specs.declared.kernel.LinearPk.{LinearPk}
 use Rattle.protocol.specs.Prepare.{reckoned}
 use Rattle.protocol.specs.Schedule.{schedule}
-use Rattle.protocol.specs.Execute.{Propagator, Row, Side, Post, State, Outcome, go, stop, run, begin, runOf}
-use Rattle.protocol.specs.PlainRun.{EndRow, Prepared, PlainRun}
+use Rattle.protocol.specs.Execute.{Propagator, Outcome, go, stop, runOf}
+use Rattle.protocol.specs.PlainRun.{Prepared}
 use Rattle.protocol.specs.declared.Event.{Event}
 use Rattle.protocol.specs.declared.Window.{Window}
 use Rattle.rows.specs.Written.{Cells, Room}
@@ -23,8 +21,8 @@ use Rattle.rows.specs.Told.{Told, told, behindOf, after, Ran, kernelAdvance}
 use Rattle.rows.specs.declared.Progress.{Progress}
 use Rattle.simulate_matrix.specs.Started.{started}
 use Rattle.simulation.specs.KernelRun.{propagatorOf}
-use Rattle.simulation.proofs.KernelRuns.{kernel-run}
-use Rattle.cycle.specs.Closed.{Timed, stopped, got, divided, lastPost, endOf, lastOf}
+use Rattle.cycle.specs.Closed.{Timed, stopped, got, divided, endOf, lastOf}
+use Rattle.cycle.proofs.InnerRuns.{run-leaves}
 use Rattle.cycle_run.specs.Ends.{Runs, cycleEnd}
 
 -- ---- room for the reckoned rows
@@ -37,39 +35,25 @@ inner-room n es c s e t d v =
       values = le-trans (mul-le-mul-right n few) (le-trans (mul-le-mul-left 770 s) v);
     }
 
--- ---- the last post row holds the amounts that the run leaves
-last-post : (a : List Float) (rs : List Row) (r : Row) → r .side ≡ Post → lastPost a (rs ++ (r ∷ [])) ≡ r .amounts
-unfolding lastPost
-last-post a [] r h = rw h
-last-post a (x ∷ rs) r h = last-post _ rs r h
-
-last-left : (w : Window) (z : State) → EndRow w z → lastPost [] (z .rows) ≡ z .amounts
-last-left w z h = ap (lastPost []) (h .whole) ∙ last-post [] (h .ahead) (h .last) (h .post) ∙ h .final
-
 -- ---- where it comes to
 abbrev toldEnd : Told → Timed (List Float)
 toldEnd t = cond (t .stopped) (stopped (t .number) (t .time)) (got (t .amounts))
 
-module _ (k : LinearPk) (n : ℕ) (w : Window) (es : List Event) (initial : List Float) (h : Runs k n w es) (a : T (amountsPass n (take n initial))) where
-  run-facts : Prepared n (divided n w) [] es → PlainRun (propagatorOf k) n (divided n w) [] es (take n initial)
-  run-facts p =
-      subst (λ (j : ℕ). Prepared j (divided n w) [] es → T (amountsPass j (take n initial)) → PlainRun (propagatorOf k) j (divided n w) [] es (take n initial)) (sym (h .states))
-      (λ q b. kernel-run k (h .kernel) (divided n w) [] es q (take n initial) b) p a
-
+module _ (k : LinearPk) (n : ℕ) (w : Window) (es : List Event) (initial : List Float) (h : Runs k n w es) where
   kernel-advance : kernelAdvance k n ≡ propagatorOf k
   unfolding kernelAdvance
-  kernel-advance = ap (λ (j : ℕ). λ (x r : List Float) (d : Float). advance scheme k x r d j) (h .states)
+  kernel-advance = ap (λ (j : ℕ). λ (x r : List Float) (d : Float). advance scheme k x r d j) (h .count)
 
   came-to : Prepared n (divided n w) [] es → (o : Outcome) → runOf (propagatorOf k) n (divided n w) [] es (take n initial) ≡ o → (s : Told) → toldEnd (behindOf s o) ≡ endOf o
   came-to p (stop c t z) e s = refl
-  came-to p (go z) e s = ap got (sym (last-left (divided n w) z (run-facts p .reached z e .end-row)))
+  came-to p (go z) e s = ap got (sym (run-leaves (propagatorOf k) n (divided n w) [] es (take n initial) z p e))
 
   pub inner : {v : Window} {p : Progress} {old c : Cells} → v ≡ divided n w → Prepared n v [] es
       → Ran (kernelAdvance k n) n (started initial (v .propagations)) (schedule n v [] es) old p c
       → toldEnd (told n p) ≡ lastOf (propagatorOf k) n w es (take n initial)
   unfolding lastOf runOf after
   inner {v} {p} {old} {c} e q r =
-      let q' = subst (λ (u : Window). Prepared n u [] es) e q in
       let r' = subst (λ (u : Window). Ran (kernelAdvance k n) n (started initial (u .propagations)) (schedule n u [] es) old p c) e r in
       let r″ = subst (λ (f : Propagator). Ran f n (started initial (divided n w .propagations)) (schedule n (divided n w) [] es) old p c) kernel-advance r' in
-      ap toldEnd (r″ .progress) ∙ came-to q' (runOf (propagatorOf k) n (divided n w) [] es (take n initial)) refl (told n (started initial (divided n w .propagations)))
+      ap toldEnd (r″ .progress)
+      ∙ came-to (subst (λ (u : Window). Prepared n u [] es) e q) (runOf (propagatorOf k) n (divided n w) [] es (take n initial)) refl (told n (started initial (divided n w .propagations)))

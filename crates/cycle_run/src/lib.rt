@@ -6,9 +6,7 @@ use protocol::Window;
 ghost use mathlib.Core.Path.{_≡_};
 ghost use mathlib.Core.List.{List};
 ghost use Prim.Native.Nat.{ℕ, _≤_, _<_};
-ghost use lib.Dec.{T};
 ghost use lib.ListN.{length, take};
-ghost use Rattle.binary64.specs.Lists.{amountsPass};
 ghost use Rattle.events.specs.Packed.{packed};
 ghost use Rattle.simulation.specs.KernelRun.{propagatorOf};
 ghost use Rattle.cycle.specs.Closed.{divided as dividedOf, homogeneous as homogeneousOf, unit as unitOf, lastOf, columnsTo};
@@ -98,7 +96,7 @@ fn last_in(
     sides: &mut [u8],
     values: &mut [f64],
 ) -> CycleEnd
-    requires { ⌜ Runs kernel n window (packed (now reals) (now words) count) × (n ≤ 4) × T (amountsPass n (take n initial))
+    requires { ⌜ Runs kernel n window (packed (now reals) (now words) count)
         × (256 ≤ length (now readings)) × (386 ≤ length (now bounds)) × (770 ≤ length (now times)) × (770 ≤ length (now sides)) × (3080 ≤ length (now values)) ⌝ }
     ensures { λ r. ⌜ cycleEnd n r ≡ lastOf (propagatorOf kernel) n window (packed (now (reals .entry)) (now (words .entry)) count) (take n initial) ⌝ }
 {
@@ -168,7 +166,7 @@ pub fn last_of(
     words: &[[usize; 4]; EVENTS],
     count: usize,
 ) -> CycleEnd
-    requires { ⌜ Runs kernel n window (packed (now reals) (now words) count) × (n ≤ 4) × T (amountsPass n (take n initial)) ⌝ }
+    requires { ⌜ Runs kernel n window (packed (now reals) (now words) count) ⌝ }
     ensures { λ r. ⌜ cycleEnd n r ≡ lastOf (propagatorOf kernel) n window (packed (now (reals .entry)) (now (words .entry)) count) (take n initial) ⌝ }
 {
     let mut readings = sample_cells();
@@ -219,7 +217,7 @@ pub fn columns(
     count: usize,
     columns: &mut [[f64; STATES]; STATES],
 ) -> ColumnsReply
-    requires { ⌜ Runs kernel n window (homogeneousOf (packed (now reals) (now words) count)) × (n ≤ 4) × (count ≤ 192) × (length (now columns) ≡ 4) ⌝ }
+    requires { ⌜ Runs kernel n window (homogeneousOf (packed (now reals) (now words) count)) × (count ≤ 192) × (length (now columns) ≡ 4) ⌝ }
     ensures { λ r. ⌜ columnsEnd n r (now (columns .exit)) ≡ columnsTo (propagatorOf kernel) n window (packed (now (reals .entry)) (now (words .entry)) count) n ⌝ }
 {
     let zeroed = homogeneous(reals, count);
@@ -232,7 +230,8 @@ pub fn columns(
                 time: end.time,
             };
         }
-        columns[j] = end.amounts;
+        let amounts = end.amounts;
+        columns[j] = amounts;
     }
     ColumnsReply {
         stopped: false,

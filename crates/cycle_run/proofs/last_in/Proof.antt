@@ -8,18 +8,17 @@ use Rattle.rows.specs.Written.{cells}
 use Rattle.cycle_run.proofs.Inner.{inner-room, inner}
 use Rattle.cycle_run.proofs.last_in.Statement.{statement}
 use Rattle.cycle_run.proofs.last_in.Tie as tie
-use Rattle.cycle_run.proofs.last_in.Reads as reads
-use Rattle.cycle_run.proofs.last_in.Lts as lts
-use Rattle.cycle_run.proofs.divided.Reads as divided-reads
-use Rattle.simulate_matrix.proofs.on_schedule.Reads as on-schedule-reads
+
+divided-requires : tie.Need-divided-requires
+divided-requires c κs = c .before .before .before .before .before .pre .0 .states
 
 on-schedule-requires : tie.Need-on-schedule-requires
 on-schedule-requires c κs =
     let g = c .before .before .before .before .before .before .before .before .before .before .before .before .args in
     let h = c .before .before .before .before .before .before .before .before .before .before .before .before .pre in
     let es = packed (g .reals .now) (g .words .now) (g .count) in
-    (h .1, rw packed-length at (h .0 .few), omega arith, rw (c .before .before .before .before .before .before .divided .ensures) (h .0 .passes),
-    inner-room (g .n) es (cells (g .times .now) (g .sides .now) (g .values .now)) (h .1) (h .0 .few) (h .5) (h .6) (h .7), h .3, h .4)
+    (h .0 .states, rw packed-length at (h .0 .few), omega arith, rw (c .before .before .before .before .before .before .divided .ensures) (h .0 .passes),
+    inner-room (g .n) es (cells (g .times .now) (g .sides .now) (g .values .now)) (h .0 .states) (h .0 .few) (h .3) (h .4) (h .5), h .1, h .2)
 
 returns : tie.Need-returns
 returns c =
@@ -27,11 +26,11 @@ returns c =
     let h = c .before .before .before .before .before .before .before .before .before .before .before .before .before .before .before .before .before .before .before .before .before .before .before .before .pre in
     let es = packed (g .reals .now) (g .words .now) (g .count) in
     let r = c .before .before .before .before .before .before .before .before .before .before .before .on-schedule .ensures in
-    inner (g .kernel) (g .n) (g .window) es (g .initial) (h .0) (h .2) (c .before .before .before .before .before .before .before .before .before .before .before .before .before .before .before .before .before .before .divided .ensures) (r .0) (r .1)
+    inner (g .kernel) (g .n) (g .window) es (g .initial) (h .0) (c .before .before .before .before .before .before .before .before .before .before .before .before .before .before .before .before .before .before .divided .ensures) (r .0) (r .1)
 
 pub last-in-spec : {M : Type 1} → statement M
 last-in-spec =
     tie.close
     (tie.spec
-    (λ c κs. search needs) (λ c. search needs) (λ c. search needs) on-schedule-requires (λ c. search needs) (λ c. search needs)
+    divided-requires (λ c. search needs) (λ c. search needs) on-schedule-requires (λ c. search needs) (λ c. search needs)
     (λ c. search needs) (λ c. search needs) (λ c. search needs) returns)

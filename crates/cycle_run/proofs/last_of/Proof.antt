@@ -5,9 +5,7 @@ use Rattle.cycle_run.proofs.last_of.Statement.{statement}
 use Rattle.cycle_run.proofs.last_of.Tie as tie
 
 last-in-requires : tie.Need-last-in-requires
-last-in-requires c κs =
-    let h = c .before .before .before .before .before .before .before .before .before .before .pre in
-    (h .0, h .1, h .2, omega arith, omega arith, omega arith, omega arith, omega arith)
+last-in-requires c κs = (c .before .before .before .before .before .before .before .before .before .before .pre, omega arith, omega arith, omega arith, omega arith, omega arith)
 
 pub last-of-spec : {M : Type 1} → statement M
 last-of-spec =
