@@ -19,7 +19,8 @@ pub struct Scaled {
 fn scale(tolerance: SteadyStateTolerance, start: f64, end: f64) -> f64
     ensures { λ r. ⌜ r ≡ scaleOf tolerance start end ⌝ }
 {
-    tolerance.absolute + tolerance.relative * binary64::max(binary64::abs(start), binary64::abs(end))
+    tolerance.absolute
+        + tolerance.relative * binary64::max(binary64::abs(start), binary64::abs(end))
 }
 
 fn not_scaled(refusal: Refusal) -> Scaled

@@ -44,8 +44,8 @@ loop-again c =
       omega arith,
       simp length-set (c .before .before .before .before .before .before .loop .inv .1),
       columns-more (propagatorOf (g .kernel)) (g .n) (g .window) (packed (g .reals .now) (g .words .now) (g .count)) (c .before .before .before .before .before .before .loop .columns) (c .before .before .before .before .before .before .loop .j) (c .before .before .before .before .before .before .loop .inv .2) (c .before .before .last-of .result .amounts)
-      (omega (arith, c .before .before .before .before .before .before .before .before .pre .0 .states))
-      (rw (c .before .before .before .before .before .before .before .homogeneous .ensures (g .words .now), c .before .before .before .before .unit .ensures, unit-front (g .n) (c .before .before .before .before .before .before .loop .j) (c .before .before .before .before .before .before .before .before .pre .0 .states) l, c .before .if1 .left) at (c .before .before .last-of .ensures)),
+          (omega (arith, c .before .before .before .before .before .before .before .before .pre .0 .states))
+          (rw (c .before .before .before .before .before .before .before .homogeneous .ensures (g .words .now), c .before .before .before .before .unit .ensures, unit-front (g .n) (c .before .before .before .before .before .before .loop .j) (c .before .before .before .before .before .before .before .before .pre .0 .states) l, c .before .if1 .left) at (c .before .before .last-of .ensures)),
     )
 
 returns-2 : tie.Need-returns-2 Inv-loop μ-loop

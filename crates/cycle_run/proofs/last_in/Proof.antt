@@ -16,9 +16,15 @@ on-schedule-requires : tie.Need-on-schedule-requires
 on-schedule-requires c κs =
     let g = c .before .before .before .before .before .before .before .before .before .before .before .before .args in
     let h = c .before .before .before .before .before .before .before .before .before .before .before .before .pre in
-    let es = packed (g .reals .now) (g .words .now) (g .count) in
-    (h .0 .states, rw packed-length at (h .0 .few), omega arith, rw (c .before .before .before .before .before .before .divided .ensures) (h .0 .passes),
-    inner-room (g .n) es (cells (g .times .now) (g .sides .now) (g .values .now)) (h .0 .states) (h .0 .few) (h .3) (h .4) (h .5), h .1, h .2)
+    let es = packed (g .reals .now) (g .words .now) (g .count) in (
+      h .0 .states,
+      rw packed-length at (h .0 .few),
+      omega arith,
+      rw (c .before .before .before .before .before .before .divided .ensures) (h .0 .passes),
+      inner-room (g .n) es (cells (g .times .now) (g .sides .now) (g .values .now)) (h .0 .states) (h .0 .few) (h .3) (h .4) (h .5),
+      h .1,
+      h .2,
+    )
 
 returns : tie.Need-returns
 returns c =

@@ -1,80 +1,61 @@
--- `residual::greatest` meets its contract.
-use mathlib.Core.Path.{_≡_, refl}
+-- `residual::greatest` meets its contract. The invariant: the greatest of the first i states is at hand.
+use mathlib.Core.Path.{_≡_, refl, sym, ap, _∙_}
 use borrow.Author.Needs.{needs}
+use borrow.Author.Tests.{not-true, not-false}
 use native.Mathlib.Omega.{arith}
+use Prim.Native.Nat.{_≤_, _-_}
+use lib.ListN.{take}
+use lib.Ieee.{binary64, div, lt, ofBits}
+use mathlib.Core.Bool.{not, _&&_}
+use Rattle.binary64.specs.Doubles.{one}
+use Rattle.cycle.specs.Closed.{got, greatestTo}
+use Rattle.residual.proofs.States.{scale-stops, residual-stops, greatest-more, greatest-all}
 use Rattle.residual.proofs.greatest.Statement.{statement}
 use Rattle.residual.proofs.greatest.Tie as tie
-use Rattle.residual.proofs.greatest.Reads as reads
-use Rattle.residual.proofs.greatest.Lts as lts
-use Rattle.binary64.proofs.abs.Reads as abs-reads
-use Rattle.binary64.proofs.is_finite.Reads as is-finite-reads
-use Rattle.binary64.proofs.max.Reads as max-reads
-use Rattle.residual.proofs.not_scaled.Reads as not-scaled-reads
-use Rattle.residual.proofs.scale.Reads as scale-reads
 
 abbrev Inv-loop : tie.InvT-loop
-Inv-loop n tolerance start end greatest₀ i₀ greatest i = ?
+Inv-loop n tolerance start end greatest₀ i₀ greatest i = (i ≤ n) × (greatestTo tolerance (take n start) (take n end) i ≡ got greatest)
 
 abbrev μ-loop : tie.MeasureT-loop
-μ-loop n tolerance start end greatest₀ i₀ greatest i = ?
+μ-loop n tolerance start end greatest₀ i₀ greatest i = n - i
 
 loop-holds : tie.Need-loop-holds Inv-loop μ-loop
-loop-holds c = ?
-
-mul-from : tie.Need-mul-from Inv-loop μ-loop
-mul-from c = ?
-
-array-read-from : tie.Need-array-read-from Inv-loop μ-loop
-array-read-from c = ?
-
-mul-to : tie.Need-mul-to Inv-loop μ-loop
-mul-to c = ?
-
-array-read-to : tie.Need-array-read-to Inv-loop μ-loop
-array-read-to c = ?
-
-scale-requires : tie.Need-scale-requires Inv-loop μ-loop
-scale-requires c κs = ?
-
-is-finite-requires : tie.Need-is-finite-requires Inv-loop μ-loop
-is-finite-requires c κs = ?
-
-not-scaled-requires : tie.Need-not-scaled-requires Inv-loop μ-loop
-not-scaled-requires c κs = ?
+unfolding greatestTo ofBits
+loop-holds c = (omega arith, refl)
 
 returns : tie.Need-returns Inv-loop μ-loop
-returns c = ?
-
-abs-requires : tie.Need-abs-requires Inv-loop μ-loop
-abs-requires c κs = ?
-
-is-finite-requires-2 : tie.Need-is-finite-requires-2 Inv-loop μ-loop
-is-finite-requires-2 c κs = ?
-
-not-scaled-requires-2 : tie.Need-not-scaled-requires-2 Inv-loop μ-loop
-not-scaled-requires-2 c κs = ?
+returns c =
+    let g = c .before .before .before .before .before .before .args in
+    rw (c .not-scaled .ensures)
+    (scale-stops (g .tolerance) (g .n) (g .t3) (g .t4) (c .before .before .before .before .before .loop .i) (c .before .before .before .before .before .loop .greatest) (c .before .before .before .before .loop-test .taken) (c .before .before .before .before .before .loop .inv .1) (c .before .before .before .scale .ensures)
+    (sym (c .before .before .is-finite .ensures) ∙ not-true (c .before .before .is-finite .result) (c .before .if1 .taken)))
 
 returns-2 : tie.Need-returns-2 Inv-loop μ-loop
-returns-2 c = ?
-
-max-requires : tie.Need-max-requires Inv-loop μ-loop
-max-requires c κs = ?
-
-add-i : tie.Need-add-i Inv-loop μ-loop
-add-i c = ?
-
-loop-less : tie.Need-loop-less Inv-loop μ-loop
-loop-less c = ?
+unfolding ofBits
+returns-2 c =
+    let x = div binary64 (c .before .before .before .abs .result) (c .before .before .before .before .before .before .scale .result) in
+    let g = c .before .before .before .before .before .before .before .before .before .args in
+    rw (c .not-scaled2 .ensures)
+    (residual-stops (g .tolerance) (g .n) (g .t3) (g .t4) (c .before .before .before .before .before .before .before .before .loop .i) (c .before .before .before .before .before .before .before .before .loop .greatest) (c .before .before .before .before .before .before .before .loop-test .taken) (c .before .before .before .before .before .before .before .before .loop .inv .1) (c .before .before .before .before .before .before .scale .ensures)
+    (sym (c .before .before .before .before .before .is-finite .ensures) ∙ not-false (c .before .before .before .before .before .is-finite .result) (c .before .before .before .before .if1 .left)) {x = x} (rw (c .before .before .before .abs .ensures)) (rw (c .before .before .is-finite2 .ensures) at (not-true (c .before .before .is-finite2 .result && not (lt one x)) (c .before .if2 .taken))))
 
 loop-again : tie.Need-loop-again Inv-loop μ-loop
-loop-again c = ?
+unfolding ofBits
+loop-again c =
+    let x = div binary64 (c .before .before .before .abs .result) (c .before .before .before .before .before .before .scale .result) in
+    let g = c .before .before .before .before .before .before .before .before .before .args in (
+      omega arith,
+      rw (c .max .ensures)
+          (greatest-more (g .tolerance) (g .n) (g .t3) (g .t4) (c .before .before .before .before .before .before .before .before .loop .i) (c .before .before .before .before .before .before .before .before .loop .greatest) (c .before .before .before .before .before .before .before .loop-test .taken) (c .before .before .before .before .before .before .before .before .loop .inv .1) (c .before .before .before .before .before .before .scale .ensures)
+          (sym (c .before .before .before .before .before .is-finite .ensures) ∙ not-false (c .before .before .before .before .before .is-finite .result) (c .before .before .before .before .if1 .left)) {x = x} (rw (c .before .before .before .abs .ensures)) (rw (c .before .before .is-finite2 .ensures) at (not-false (c .before .before .is-finite2 .result && not (lt one x)) (c .before .if2 .left)))),
+    )
 
 returns-3 : tie.Need-returns-3 Inv-loop μ-loop
-returns-3 c = ?
+returns-3 c = greatest-all _ _ _ _ _ _ (c .before .loop .inv .0) (c .loop-test .left) (c .before .loop .inv .1)
 
 pub greatest-spec : {M : Type 1} → statement M
 greatest-spec =
     tie.close
     (tie.spec
-    Inv-loop μ-loop loop-holds mul-from array-read-from mul-to array-read-to scale-requires is-finite-requires not-scaled-requires
-    returns abs-requires is-finite-requires-2 not-scaled-requires-2 returns-2 max-requires add-i loop-less loop-again returns-3)
+    Inv-loop μ-loop loop-holds (λ c. search needs) (λ c. search needs) (λ c. search needs) (λ c. search needs) (λ c κs. search needs) (λ c κs. search needs) (λ c κs. search needs)
+    returns (λ c κs. search needs) (λ c κs. search needs) (λ c κs. search needs) returns-2 (λ c κs. search needs) (λ c. search needs) (λ c. search needs) loop-again returns-3)
