@@ -1,2 +1,3 @@
 -- The laws of the closed cycle's chain.
 pub mod Chain
+pub mod Answered
