@@ -1,5 +1,5 @@
--- `periodic::solved` meets its contract.
-use mathlib.Core.Path.{_≡_, refl, sym}
+-- `periodic::execute_prepared_periodic_steady_state` meets its contract.
+use mathlib.Core.Path.{_≡_, refl}
 use mathlib.Core.Bool.{true, _&&_}
 use borrow.Author.Needs.{needs}
 use borrow.Author.Tests.{lt-leb, le-leb}
@@ -8,8 +8,8 @@ use lib.ListN.{length, take}
 use Rattle.events.specs.Packed.{packed}
 use Rattle.simulation.specs.KernelRun.{propagatorOf}
 use Rattle.periodic.proofs.Answered.{refuses, solves, room-stops, candidate-none, candidate-some}
-use Rattle.periodic.proofs.solved.Statement.{statement}
-use Rattle.periodic.proofs.solved.Tie as tie
+use Rattle.periodic.proofs.execute_prepared_periodic_steady_state.Statement.{statement}
+use Rattle.periodic.proofs.execute_prepared_periodic_steady_state.Tie as tie
 
 returns : tie.Need-returns
 returns c =
@@ -47,8 +47,8 @@ returns-5 c =
     (candidate-some (propagatorOf (g .kernel)) (g .n) (g .window) (g .tolerance) (packed (g .reals .now) (g .words .now) (g .count)) room (rw (c .before .before .before .before .before .before .before .before .before .before .before .before .if3 .left) at (c .before .before .before .before .before .before .before .before .before .before .before .before .before .solution .ensures)) (rw (c .before .before .before .before .before .before .before .before .before .if4 .left) at (c .before .before .before .before .before .before .before .before .before .before .accepted .ensures)))
     (c .before .before .before .before .before .before .lay .ensures) (c .before .before .lay2 .ensures)
 
-pub solved-spec : {M : Type 1} → statement M
-solved-spec =
+pub execute-prepared-periodic-steady-state-spec : {M : Type 1} → statement M
+execute-prepared-periodic-steady-state-spec =
     tie.close
     (tie.spec
     (λ c κs. search needs) returns (λ c κs. search needs) returns-2 (λ c κs. search needs) returns-3 (λ c κs. search needs)

@@ -1,9 +1,8 @@
--- `periodic::tolerance_passes` meets its contract.
-use mathlib.Core.Path.{refl}
+-- `cycle_preparation::tolerance_passes` meets its contract.
 use borrow.Author.Needs.{needs}
 use Rattle.cycle.specs.Closed.{tolerancePasses}
-use Rattle.periodic.proofs.tolerance_passes.Statement.{statement}
-use Rattle.periodic.proofs.tolerance_passes.Tie as tie
+use Rattle.cycle_preparation.proofs.tolerance_passes.Statement.{statement}
+use Rattle.cycle_preparation.proofs.tolerance_passes.Tie as tie
 
 returns : tie.Need-returns
 unfolding tolerancePasses

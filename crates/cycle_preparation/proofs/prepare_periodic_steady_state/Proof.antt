@@ -1,15 +1,13 @@
--- `periodic::ready` meets its contract.
-use mathlib.Core.Path.{_≡_, refl, sym, ap, _∙_}
+-- `cycle_preparation::prepare_periodic_steady_state` meets its contract.
+use mathlib.Core.Path.{sym, _∙_}
 use borrow.Author.Needs.{needs}
 use borrow.Author.Tests.{not-true, not-false}
 use native.Mathlib.Omega.{arith}
-use Prim.Native.Nat.{_≤_}
 use Rattle.events.specs.Packed.{packed}
 use Rattle.preparation.proofs.Tests.{refusal-number}
-use Rattle.cycle.specs.Closed.{untimed}
-use Rattle.periodic.proofs.Answered.{tolerance-stops, fold-stops, prepare-stops, ready-got}
-use Rattle.periodic.proofs.ready.Statement.{statement}
-use Rattle.periodic.proofs.ready.Tie as tie
+use Rattle.cycle_preparation.proofs.Ready.{tolerance-stops, fold-stops, prepare-stops, ready-got}
+use Rattle.cycle_preparation.proofs.prepare_periodic_steady_state.Statement.{statement}
+use Rattle.cycle_preparation.proofs.prepare_periodic_steady_state.Tie as tie
 
 returns : tie.Need-returns
 returns c =
@@ -51,8 +49,8 @@ returns-4 c =
       c .before .before .before .before .before .before .before .before .before .folded .ensures .1 .1 .0,
     )
 
-pub ready-spec : {M : Type 1} → statement M
-ready-spec =
+pub prepare-periodic-steady-state-spec : {M : Type 1} → statement M
+prepare-periodic-steady-state-spec =
     tie.close
     (tie.spec
     (λ c κs. search needs) (λ c κs. search needs) returns (λ c κs. search needs) (λ c. search needs) (λ c κs. search needs)
