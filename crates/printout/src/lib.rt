@@ -2,10 +2,10 @@
 mod number;
 mod row;
 
-use number::places;
-use number::put_bits;
+pub use number::places;
+pub use number::put_bits;
 use number::put_decimal;
-use number::put_text;
+pub use number::put_text;
 use row::put_rows;
 use row::rows_length;
 ghost use mathlib.Core.Path.{_≡_};
@@ -65,7 +65,7 @@ fn put_run(
 }
 
 // The text of a refusal.
-fn put_refused(out: &mut [u8], number: u64, time: f64) -> usize
+pub fn put_refused(out: &mut [u8], number: u64, time: f64) -> usize
     requires { ⌜ length (refusedText number time) ≤ length (now out) ⌝ }
     ensures { λ r. ⌜ Wrote (refusedText number time) 0 (now (out .entry)) r (now (out .exit)) ⌝ }
 {
