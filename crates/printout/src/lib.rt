@@ -2,6 +2,7 @@
 mod number;
 mod row;
 
+pub use number::bits;
 pub use number::places;
 pub use number::put_bits;
 use number::put_decimal;

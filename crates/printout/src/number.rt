@@ -52,7 +52,7 @@ pub fn put_decimal(out: &mut [u8], at: usize, word: u64) -> usize
 }
 
 // The bits of a double; every NaN has the same.
-fn bits(x: f64) -> u64
+pub fn bits(x: f64) -> u64
     ensures { λ r. ⌜ r ≡ bitsOf x ⌝ }
 {
     if x != x {
