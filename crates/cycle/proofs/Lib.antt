@@ -5,3 +5,4 @@ pub mod InnerRuns
 pub mod Scales
 pub mod Residuals
 pub mod Theorems
+pub mod Stays

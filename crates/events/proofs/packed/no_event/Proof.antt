@@ -1,8 +1,8 @@
--- `layout::no_event` meets its contract.
+-- `events::packed::no_event` meets its contract.
 use mathlib.Core.Path.{_≡_, refl}
 use lib.Ieee.{ofBits}
-use Rattle.layout.proofs.no_event.Statement.{statement}
-use Rattle.layout.proofs.no_event.Tie as tie
+use Rattle.events.proofs.packed.no_event.Statement.{statement}
+use Rattle.events.proofs.packed.no_event.Tie as tie
 
 returns : tie.Need-returns
 unfolding ofBits

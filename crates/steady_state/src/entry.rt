@@ -1,0 +1,70 @@
+// The entry.
+use crate::fold;
+use carryover::Folding;
+use events::EVENTS;
+use linear_pk::LinearPk;
+use preparation::SAMPLES;
+use protocol::Event;
+use protocol::Window;
+use refusal::Refusal;
+use refusal::Reply;
+ghost use mathlib.Core.Path.{_≡_};
+ghost use Prim.Native.Nat.{_≤_, _<_};
+ghost use lib.ListN.{getD};
+ghost use Rattle.refusal.specs.Numbers.{replyNumber};
+ghost use Rattle.events.specs.Packed.{packed};
+ghost use Rattle.protocol.specs.Events.{noEvent};
+ghost use Rattle.steady_state.specs.Entry.{foldEntry, answerOf, told, filled};
+
+// The most events of a cycle's list before it is folded.
+pub const CYCLE_EVENTS: usize = 64;
+
+pub struct Listed {
+    pub event: Event,
+}
+
+// The reply, how many events the folded list has, and the list in the first places.
+pub struct FoldedCycle {
+    pub reply: Reply,
+    pub count: usize,
+    pub events: [Listed; EVENTS],
+}
+
+// The event at place i of a packed list, or what stands past its end.
+fn listed_at(
+    reals: &[[f64; 3]; EVENTS],
+    words: &[[usize; 4]; EVENTS],
+    count: usize,
+    i: usize,
+) -> Listed
+    requires { ⌜ count ≤ 192 ⌝ }
+    ensures { λ r. ⌜ r ≡ record { event = getD (packed (now (reals .entry)) (now (words .entry)) count) i noEvent } ⌝ }
+{
+    if i < count {
+        return Listed {
+            event: events::event_at(reals, words, i),
+        };
+    }
+    Listed {
+        event: events::no_event(),
+    }
+}
+
+// A packed list in the first places, and behind it what stands past its end.
+fn list_of(
+    reals: &[[f64; 3]; EVENTS],
+    words: &[[usize; 4]; EVENTS],
+    count: usize,
+) -> [Listed; EVENTS]
+    requires { ⌜ count ≤ 192 ⌝ }
+    ensures { λ r. ⌜ r ≡ filled (packed (now (reals .entry)) (now (words .entry)) count) ⌝ }
+{
+    let none = Listed {
+        event: events::no_event(),
+    };
+    let mut list = [none; EVENTS];
+    for i in 0..EVENTS {
+        list[i] = listed_at(reals, words, count, i);
+    }
+    list
+}

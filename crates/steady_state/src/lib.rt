@@ -1,0 +1,8 @@
+// `normalize_periodic_cycle`: the list of a cycle, folded into one period.
+mod entry;
+mod fold;
+
+pub use carryover::Folding;
+pub use entry::FoldedCycle;
+pub use entry::Listed;
+pub use fold::folded;
