@@ -4,6 +4,7 @@ use linear_pk::LinearPk;
 use periodic::SteadyReply;
 use refusal::Reply;
 use rig::PrintReply;
+use steady_printout::print_steady;
 ghost use mathlib.Core.Path.{_≡_};
 ghost use mathlib.Core.Bool.{true};
 ghost use mathlib.Core.List.{[]};
@@ -84,19 +85,11 @@ fn print_reply(
 {
     match reply {
         SteadyReply::Refused { number, time } => {
-            let length = steady_printout::print_steady(
-                number,
-                time,
-                n,
-                0.0,
-                amounts,
-                residual,
-                out,
-            );
+            let length = print_steady(number, time, n, 0.0, amounts, residual, out);
             rig::reply_of(number, length)
         }
         SteadyReply::Solved { maximum } => {
-            let length = steady_printout::print_steady(0, 0.0, n, maximum, amounts, residual, out);
+            let length = print_steady(0, 0.0, n, maximum, amounts, residual, out);
             rig::reply_of(0, length)
         }
     }
