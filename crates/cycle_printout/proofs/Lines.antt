@@ -73,18 +73,18 @@ module _ (tol : SteadyStateTolerance) where
 
   -- ---- the whole text
   module _ (n : ℕ) (xs ys zs : List Float) (h : n ≤ length xs) (l : n ≤ length ys) {closed : Bool} (c : closed ≡ closes tol (take n xs) (take n ys) (take n zs)) where
-    pub text-length : length (linesText tol (cycleOf n xs ys zs)) ≡ linesLength n closed
+    pub text-length : length (linesText (cycleOf tol n xs ys zs)) ≡ linesLength n closed
     unfolding linesText
     text-length = rw (← c) (omega (arith, length-append (cycleLines tol (take n xs) (take n ys)) (verdictLine closed), lines-length n xs ys h l, verdict-length closed))
 
     module _ {size : ℕ} (s : size ≡ linesLength n closed) (old : List ℕ) where
-      pub too-long : length old < size → Printed (linesText tol (cycleOf n xs ys zs)) old 0 old
-      too-long g = no-room (linesText tol (cycleOf n xs ys zs)) old (rw (text-length, ← s) g)
+      pub too-long : length old < size → Printed (linesText (cycleOf tol n xs ys zs)) old 0 old
+      too-long g = no-room (linesText (cycleOf tol n xs ys zs)) old (rw (text-length, ← s) g)
 
       pub lines-fit : size ≤ length old → 68 * n ≤ length old
       lines-fit g = omega arith
 
       pub cycle-printed : {r at : ℕ} {mid new : List ℕ} → size ≤ length old → Wrote (cycleLines tol (take n xs) (take n ys)) 0 old at mid → Wrote (verdictLine closed) at mid r new
-          → Printed (linesText tol (cycleOf n xs ys zs)) old r new
+          → Printed (linesText (cycleOf tol n xs ys zs)) old r new
       unfolding linesText
-      cycle-printed g a b = with-room (linesText tol (cycleOf n xs ys zs)) old (rw (text-length, ← s) g) (rw (← c) (wrote-both a b))
+      cycle-printed g a b = with-room (linesText (cycleOf tol n xs ys zs)) old (rw (text-length, ← s) g) (rw (← c) (wrote-both a b))

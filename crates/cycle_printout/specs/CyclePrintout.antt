@@ -11,8 +11,9 @@ use Rattle.printout.specs.Printout.{bitsOf, doubleText, refusedText}
 use Rattle.cycle.specs.declared.SteadyStateTolerance.{SteadyStateTolerance}
 use Rattle.cycle.specs.Closed.{Timed, stopped, got, scaleOf, scaledOf}
 
--- the amounts at the start and at the end of the cycle, and the residuals that the solution told
+-- the amounts at the start and at the end of the cycle, the residuals that the solution told, and its tolerance
 pub record NextCycle : Type 0 where
+  pub tolerance : SteadyStateTolerance
   pub starts : List Float
   pub ends : List Float
   pub residuals : List Float
@@ -48,16 +49,16 @@ unfoldable pub verdictLine : Bool → List ℕ
 verdictLine b = cond b (99 ∷ 108 ∷ 111 ∷ 115 ∷ 101 ∷ 100 ∷ 10 ∷ []) (110 ∷ 111 ∷ 116 ∷ 32 ∷ 99 ∷ 108 ∷ 111 ∷ 115 ∷ 101 ∷ 100 ∷ 10 ∷ [])
 
 -- ---- the whole text
-unfoldable pub linesText : SteadyStateTolerance → NextCycle → List ℕ
-linesText tol c = cycleLines tol (c .starts) (c .ends) ++ verdictLine (closes tol (c .starts) (c .ends) (c .residuals))
+unfoldable pub linesText : NextCycle → List ℕ
+linesText c = cycleLines (c .tolerance) (c .starts) (c .ends) ++ verdictLine (closes (c .tolerance) (c .starts) (c .ends) (c .residuals))
 
-unfoldable pub cycleText : SteadyStateTolerance → Timed NextCycle → List ℕ
-cycleText tol (stopped number time) = refusedText number time
-cycleText tol (got c) = linesText tol c
+unfoldable pub cycleText : Timed NextCycle → List ℕ
+cycleText (stopped number time) = refusedText number time
+cycleText (got c) = linesText c
 
 -- ---- the cycle in the code's arguments: n states stand in front of the slices
-abbrev pub cycleOf : ℕ → List Float → List Float → List Float → NextCycle
-cycleOf n starts ends residual = record { starts = take n starts; ends = take n ends; residuals = take n residual }
+abbrev pub cycleOf : SteadyStateTolerance → ℕ → List Float → List Float → List Float → NextCycle
+cycleOf tol n starts ends residual = record { tolerance = tol; starts = take n starts; ends = take n ends; residuals = take n residual }
 
 -- ---- the length of the lines
 abbrev pub linesLength : ℕ → Bool → ℕ

@@ -122,8 +122,8 @@ pub fn print_cycle(
     out: &mut [u8],
 ) -> usize
     requires { ⌜ (n ≤ length (now starts)) × (n ≤ length (now ends)) × (n ≤ length (now residual)) × (n ≤ 4) ⌝ }
-    ensures { λ r. ⌜ r ≡ printedLength (linesText tolerance (cycleOf n (now (starts .entry)) (now (ends .entry)) (now (residual .entry)))) (now (out .entry)) ⌝ }
-    ensures { λ r. ⌜ now (out .exit) ≡ printed (linesText tolerance (cycleOf n (now (starts .entry)) (now (ends .entry)) (now (residual .entry)))) (now (out .entry)) ⌝ }
+    ensures { λ r. ⌜ r ≡ printedLength (linesText (cycleOf tolerance n (now (starts .entry)) (now (ends .entry)) (now (residual .entry)))) (now (out .entry)) ⌝ }
+    ensures { λ r. ⌜ now (out .exit) ≡ printed (linesText (cycleOf tolerance n (now (starts .entry)) (now (ends .entry)) (now (residual .entry)))) (now (out .entry)) ⌝ }
 {
     let closed = closes(tolerance, n, starts, ends, residual);
     if lines_length(n, closed) > out.len() {
