@@ -1,2 +1,2 @@
 -- The laws of the closed cycle's chain.
-pub mod Chain
+pub mod Answered

@@ -1,23 +1,32 @@
-// Periodic fixed points: the closed cycle of a folded list, from the runs to the candidate and its residuals.
+// `periodic_steady_state`: the closed cycle of a list, from the tests ahead of it to the amounts, the residuals and the greatest scaled one.
+use carryover::Folding;
 use cycle::SteadyStateTolerance;
-use cycle_run::CycleEnd;
 use events::EVENTS;
-use interval::Test;
 use linear_pk::LinearPk;
 use matrix::STATES;
+use preparation::SAMPLES;
+use protocol::Event;
 use protocol::Window;
 use refusal::Refusal;
 use refusal::Reply;
 ghost use mathlib.Core.Path.{_≡_};
+ghost use mathlib.Core.Bool.{_&&_};
+ghost use mathlib.Core.List.{_++_};
 ghost use Prim.Native.Nat.{_≤_};
-ghost use lib.ListN.{length, take};
-ghost use mathlib.Core.Bool.{true};
+ghost use lib.Dec.{leb};
+ghost use lib.ListN.{length, take, drop};
+ghost use Rattle.binary64.specs.Doubles.{plusZero};
+ghost use Rattle.refusal.specs.Numbers.{refusalNumber, resultOf};
+ghost use Rattle.linear_pk.specs.LinearPk.{stateCount};
 ghost use Rattle.events.specs.Packed.{packed};
 ghost use Rattle.simulation.specs.KernelRun.{propagatorOf};
-ghost use Rattle.cycle.specs.Elimination.{systemOf, solve as solveOf};
-ghost use Rattle.cycle.specs.Closed.{got, then, untimed, homogeneous, solution as solutionOf, greatestTo, residualsOf, accepted as acceptedOf};
-ghost use Rattle.cycle_run.specs.Ends.{Runs, cycleEnd, columnsOf};
-ghost use Rattle.periodic.specs.Replies.{accepted as acceptance};
+ghost use Rattle.cycle.specs.Closed.{then, untimed, unlessFails, tolerancePasses, ready as readyOf, homogeneous, solution, accepted, closed as closedOf, steadyReplyOf, answerAtExit};
+ghost use Rattle.cycle_run.specs.Ends.{Runs};
+ghost use Rattle.periodic.specs.Entry.{steadyRoom, steadyEntry, steadyReply};
+ghost use Rattle.periodic.specs.Replies.{Answers};
+
+// The most events of a cycle's list before it is folded.
+const CYCLE_EVENTS: usize = 64;
 
 // What a closed cycle replies.
 pub enum SteadyReply {
@@ -27,144 +36,230 @@ pub enum SteadyReply {
     Solved { maximum: f64 },
 }
 
-fn not_solved(number: u64, time: f64) -> CycleEnd
-    ensures { λ r. ⌜ (r .stopped ≡ true) × (r .number ≡ number) × (r .time ≡ time) ⌝ }
+// Absolute finite and above 0, relative finite and not below 0.
+fn tolerance_passes(tolerance: SteadyStateTolerance) -> bool
+    ensures { λ r. ⌜ r ≡ tolerancePasses tolerance ⌝ }
 {
-    let amounts = [0.0f64; STATES];
-    CycleEnd {
-        stopped: true,
-        number,
-        time,
-        amounts,
-    }
+    binary64::is_positive(tolerance.absolute) & binary64::is_nonnegative(tolerance.relative)
 }
 
-// Elimination on identity minus the columns, with 33.
-fn eliminated(n: usize, columns: &[[f64; STATES]; STATES], offset: [f64; STATES]) -> CycleEnd
-    requires { ⌜ n ≤ 4 ⌝ }
-    ensures { λ r. ⌜ cycleEnd n r ≡ untimed (solveOf n (systemOf n (columnsOf n (now (columns .entry)) n) (take n offset))) ⌝ }
+// 19; the fold; the preparation of its list without samples, on the divided budgets: the folded list in the two arrays.
+fn ready(
+    n: usize,
+    window: Window,
+    samples: &[f64],
+    tolerance: SteadyStateTolerance,
+    reals: &[[f64; 3]; EVENTS],
+    words: &[[usize; 4]; EVENTS],
+    count: usize,
+    out_reals: &mut [[f64; 3]; EVENTS],
+    out_words: &mut [[usize; 4]; EVENTS],
+) -> Folding
+    requires { ⌜ (n ≤ 4) × (count ≤ 64) × (length (now «out_reals») ≡ 192) × (length (now «out_words») ≡ 192) ⌝ }
+    ensures { λ r. ⌜ untimed (resultOf (r .reply) (packed (now («out_reals» .exit)) (now («out_words» .exit)) (r .count)))
+        ≡ readyOf n window (now (samples .entry)) (packed (now (reals .entry)) (now (words .entry)) count) tolerance ⌝ }
+    ensures { λ r. ⌜ r .count ≤ 192 ⌝ }
 {
-    let solved = elimination::solve(n, elimination::system(n, columns), offset);
-    let reply = solved.reply;
+    if !tolerance_passes(tolerance) {
+        return carryover::refused(Refusal::Tolerance);
+    }
+    let folding = steady_state::folded(
+        n,
+        window,
+        samples,
+        reals,
+        words,
+        count,
+        out_reals,
+        out_words,
+    );
+    let reply = folding.reply;
     match reply {
-        Reply::Refused(refusal) => not_solved(refusal::number(Reply::Refused(refusal)), 0.0),
+        Reply::Refused(refusal) => carryover::refused(refusal),
         Reply::Done => {
-            let amounts = solved.amounts;
-            CycleEnd {
-                stopped: false,
-                number: 0,
-                time: 0.0,
-                amounts,
+            let places = folding.count;
+            let none = [0.0f64; 1];
+            let budgets = cycle_run::divided(n, window);
+            let prepared = preparation::prepared(
+                n,
+                budgets,
+                &none[..0],
+                out_reals,
+                out_words,
+                places,
+            );
+            match prepared {
+                Reply::Refused(refusal) => carryover::refused(refusal),
+                Reply::Done => folding,
             }
         }
     }
 }
 
-// Cells for the columns. What they hold is of no matter.
-fn column_cells() -> [[f64; STATES]; STATES]
-    ensures { λ r. ⌜ 4 ≡ length r ⌝ }
+fn refused(refusal: Refusal) -> SteadyReply
+    ensures { λ r. ⌜ r ≡ SteadyReply.Refused (refusalNumber refusal) plusZero ⌝ }
 {
-    let column = [0.0f64; STATES];
-    [column; STATES]
+    SteadyReply::Refused {
+        number: refusal::number(Reply::Refused(refusal)),
+        time: 0.0,
+    }
 }
 
-// The run from zero, then from each unit amount; elimination.
-fn solution(
+// The first n values from the front of out; the cells behind them stay.
+fn lay(n: usize, values: [f64; STATES], out: &mut [f64])
+    requires { ⌜ (n ≤ 4) × (n ≤ length (now out)) ⌝ }
+    ensures { λ _. ⌜ now (out .exit) ≡ take n values ++ drop (length (take n values)) (now (out .entry)) ⌝ }
+{
+    interval::lay(&values[..n], out)
+}
+
+// The closed cycle of a list that was folded and prepared: 4, the candidate, its acceptance. Nothing is written ahead of the last refusal.
+fn solved(
     kernel: LinearPk,
     n: usize,
     window: Window,
+    tolerance: SteadyStateTolerance,
     reals: &[[f64; 3]; EVENTS],
     words: &[[usize; 4]; EVENTS],
     count: usize,
-) -> CycleEnd
+    amounts: &mut [f64],
+    residual: &mut [f64],
+) -> SteadyReply
     requires { ⌜ Runs kernel n window (packed (now reals) (now words) count) × Runs kernel n window (homogeneous (packed (now reals) (now words) count)) × (count ≤ 192) ⌝ }
-    ensures { λ r. ⌜ cycleEnd n r ≡ solutionOf (propagatorOf kernel) n window (packed (now (reals .entry)) (now (words .entry)) count) ⌝ }
+    ensures { λ r. ⌜ Answers (then (unlessFails (leb n (length (now (amounts .entry))) && leb n (length (now (residual .entry)))) 4 (packed (now (reals .entry)) (now (words .entry)) count))
+        (λ fs. then (solution (propagatorOf kernel) n window fs) (accepted (propagatorOf kernel) n window tolerance fs)))
+        r (now (amounts .entry)) (now (residual .entry)) (now (amounts .exit)) (now (residual .exit)) ⌝ }
 {
-    let zero = [0.0f64; STATES];
-    let offset = cycle_run::last_of(kernel, n, zero, window, reals, words, count);
-    if offset.stopped {
-        return not_solved(offset.number, offset.time);
+    if amounts.len() < n {
+        return refused(Refusal::ShortSlice);
     }
-    let mut columns = column_cells();
-    let runs = cycle_run::columns(kernel, n, window, reals, words, count, &mut columns);
-    if runs.stopped {
-        return not_solved(runs.number, runs.time);
+    if residual.len() < n {
+        return refused(Refusal::ShortSlice);
     }
-    let right = offset.amounts;
-    eliminated(n, &columns, right)
-}
-
-// A candidate refused by a number at a time, or its residuals and the greatest scaled one.
-pub struct Acceptance {
-    pub stopped: bool,
-    pub number: u64,
-    pub time: f64,
-    pub residuals: [f64; STATES],
-    pub greatest: f64,
-}
-
-fn not_accepted(number: u64, time: f64) -> Acceptance
-    ensures { λ r. ⌜ (r .stopped ≡ true) × (r .number ≡ number) × (r .time ≡ time) ⌝ }
-{
-    let residuals = [0.0f64; STATES];
-    Acceptance {
-        stopped: true,
-        number,
-        time,
-        residuals,
-        greatest: 0.0,
+    let found = candidate::solution(kernel, n, window, reals, words, count);
+    if found.stopped {
+        return SteadyReply::Refused {
+            number: found.number,
+            time: found.time,
+        };
     }
-}
-
-// The residuals of the candidate's own run, which ends with these amounts.
-fn judged(
-    n: usize,
-    tolerance: SteadyStateTolerance,
-    candidate: [f64; STATES],
-    end: [f64; STATES],
-) -> Acceptance
-    requires { ⌜ n ≤ 4 ⌝ }
-    ensures { λ r. ⌜ acceptance n candidate r ≡ then (greatestTo tolerance (take n candidate) (take n end) n)
-        (λ m. got (record { amounts = take n candidate; residuals = residualsOf n (take n candidate) (take n end); greatest = m })) ⌝ }
-{
-    let scaled = residual::greatest(n, tolerance, candidate, end);
-    let reply = scaled.reply;
-    match reply {
-        Reply::Refused(refusal) => not_accepted(refusal::number(Reply::Refused(refusal)), 0.0),
-        Reply::Done => {
-            let residuals = residual::residuals(n, candidate, end);
-            Acceptance {
-                stopped: false,
-                number: 0,
-                time: 0.0,
-                residuals,
-                greatest: scaled.greatest,
-            }
-        }
+    let candidate = found.amounts;
+    let judgement = candidate::accepted(
+        kernel,
+        n,
+        window,
+        tolerance,
+        reals,
+        words,
+        count,
+        candidate,
+    );
+    if judgement.stopped {
+        return SteadyReply::Refused {
+            number: judgement.number,
+            time: judgement.time,
+        };
+    }
+    let residuals = judgement.residuals;
+    lay(n, candidate, amounts);
+    lay(n, residuals, residual);
+    SteadyReply::Solved {
+        maximum: judgement.greatest,
     }
 }
 
-// 34; the candidate's own run; state by state 35 and 36.
-fn accepted(
+// The closed cycle of the packed list, folded into cells of its own.
+fn closed(
     kernel: LinearPk,
     n: usize,
     window: Window,
+    samples: &[f64],
     tolerance: SteadyStateTolerance,
     reals: &[[f64; 3]; EVENTS],
     words: &[[usize; 4]; EVENTS],
     count: usize,
-    candidate: [f64; STATES],
-) -> Acceptance
-    requires { ⌜ Runs kernel n window (packed (now reals) (now words) count) ⌝ }
-    ensures { λ r. ⌜ acceptance n candidate r ≡ acceptedOf (propagatorOf kernel) n window tolerance (packed (now (reals .entry)) (now (words .entry)) count) (take n candidate) ⌝ }
+    amounts: &mut [f64],
+    residual: &mut [f64],
+) -> SteadyReply
+    requires { ⌜ (n ≡ stateCount kernel) × (n ≤ 4) × (count ≤ 64) ⌝ }
+    ensures { λ r. ⌜ Answers (closedOf (propagatorOf kernel) n window (now (samples .entry)) (packed (now (reals .entry)) (now (words .entry)) count) tolerance
+        (leb n (length (now (amounts .entry))) && leb n (length (now (residual .entry)))))
+        r (now (amounts .entry)) (now (residual .entry)) (now (amounts .exit)) (now (residual .exit)) ⌝ }
 {
-    if !interval::all_pass(Test::Nonnegative, &candidate[..n]) {
-        return not_accepted(refusal::number(Reply::Refused(Refusal::Candidate)), 0.0);
+    let mut folded_reals = cycle_run::real_cells();
+    let mut folded_words = cycle_run::word_cells();
+    let folding = ready(
+        n,
+        window,
+        samples,
+        tolerance,
+        reals,
+        words,
+        count,
+        &mut folded_reals,
+        &mut folded_words,
+    );
+    let reply = folding.reply;
+    match reply {
+        Reply::Refused(refusal) => refused(refusal),
+        Reply::Done => {
+            let places = folding.count;
+            solved(
+                kernel,
+                n,
+                window,
+                tolerance,
+                &folded_reals,
+                &folded_words,
+                places,
+                amounts,
+                residual,
+            )
+        }
     }
-    let end = cycle_run::last_of(kernel, n, candidate, window, reals, words, count);
-    if end.stopped {
-        return not_accepted(end.number, end.time);
+}
+
+// The amounts of a periodic steady state at the start of the cycle, with the residuals of the run from them: 5, 1, 2, then the closed cycle.
+pub fn periodic_steady_state(
+    kernel: LinearPk,
+    window: Window,
+    events: [Event; EVENTS],
+    count: usize,
+    samples: &[f64],
+    tolerance: SteadyStateTolerance,
+    amounts: &mut [f64],
+    residual: &mut [f64],
+) -> SteadyReply
+    ensures { λ r. ⌜ steadyReply r ≡ steadyReplyOf (steadyEntry kernel window (now (samples .entry)) events count tolerance (steadyRoom kernel (length (now (amounts .entry))) (length (now (residual .entry))))) ⌝ }
+    ensures { λ r. ⌜ now (amounts .exit) ≡ answerAtExit (λ s. s .amounts) (steadyEntry kernel window (now (samples .entry)) events count tolerance (steadyRoom kernel (length (now (amounts .entry))) (length (now (residual .entry))))) (now (amounts .entry)) ⌝ }
+    ensures { λ r. ⌜ now (residual .exit) ≡ answerAtExit (λ s. s .residuals) (steadyEntry kernel window (now (samples .entry)) events count tolerance (steadyRoom kernel (length (now (amounts .entry))) (length (now (residual .entry))))) (now (residual .entry)) ⌝ }
+{
+    if count > CYCLE_EVENTS {
+        return refused(Refusal::Limit);
     }
-    let amounts = end.amounts;
-    judged(n, tolerance, candidate, amounts)
+    if samples.len() > SAMPLES {
+        return refused(Refusal::Limit);
+    }
+    let sound = linear_pk::check(kernel);
+    match sound {
+        Reply::Refused(refusal) => refused(refusal),
+        Reply::Done => {
+            let mut reals = cycle_run::real_cells();
+            let mut words = cycle_run::word_cells();
+            events::pack(events, count, &mut reals, &mut words);
+            let n = kernel.state_count();
+            closed(
+                kernel,
+                n,
+                window,
+                samples,
+                tolerance,
+                &reals,
+                &words,
+                count,
+                amounts,
+                residual,
+            )
+        }
+    }
 }

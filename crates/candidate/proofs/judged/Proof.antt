@@ -1,11 +1,11 @@
--- `periodic::judged` meets its contract.
+-- `candidate::judged` meets its contract.
 use mathlib.Core.Path.{_≡_, refl, ap, _∙_}
 use borrow.Author.Needs.{needs}
 use lib.ListN.{take}
 use lib.Ieee.{Float, ofBits}
 use Rattle.cycle.specs.Closed.{Timed, then, got, residualsOf}
-use Rattle.periodic.proofs.judged.Statement.{statement}
-use Rattle.periodic.proofs.judged.Tie as tie
+use Rattle.candidate.proofs.judged.Statement.{statement}
+use Rattle.candidate.proofs.judged.Tie as tie
 
 returns : tie.Need-returns
 unfolding ofBits

@@ -1,4 +1,4 @@
--- `periodic::accepted` meets its contract.
+-- `candidate::accepted` meets its contract.
 use mathlib.Core.Path.{_≡_, refl, sym, _∙_}
 use borrow.Author.Needs.{needs}
 use borrow.Author.Tests.{not-true, not-false}
@@ -8,9 +8,9 @@ use lib.Seq.{length-take-le}
 use lib.Ieee.{ofBits}
 use Rattle.events.specs.Packed.{packed}
 use Rattle.simulation.specs.KernelRun.{propagatorOf}
-use Rattle.periodic.proofs.Chain.{candidate-stops, run-stops, run-ends}
-use Rattle.periodic.proofs.accepted.Statement.{statement}
-use Rattle.periodic.proofs.accepted.Tie as tie
+use Rattle.candidate.proofs.Chain.{candidate-stops, run-stops, run-ends}
+use Rattle.candidate.proofs.accepted.Statement.{statement}
+use Rattle.candidate.proofs.accepted.Tie as tie
 
 slice-aggregate-all-pass : tie.Need-slice-aggregate-all-pass
 slice-aggregate-all-pass c = sym (length-take-le _ (c .before .args .t8) (omega (arith, c .before .pre .states)))

@@ -1,4 +1,4 @@
--- `periodic::eliminated` meets its contract.
+-- `candidate::eliminated` meets its contract.
 use mathlib.Core.Path.{_≡_, ap, _∙_}
 use mathlib.Core.List.{List}
 use borrow.Author.Needs.{needs}
@@ -7,9 +7,9 @@ use lib.Ieee.{Float, ofBits}
 use Rattle.refusal.specs.Result.{Result}
 use Rattle.cycle.specs.Elimination.{System, solve}
 use Rattle.cycle.specs.Closed.{untimed}
-use Rattle.periodic.proofs.Chain.{system-is}
-use Rattle.periodic.proofs.eliminated.Statement.{statement}
-use Rattle.periodic.proofs.eliminated.Tie as tie
+use Rattle.candidate.proofs.Chain.{system-is}
+use Rattle.candidate.proofs.eliminated.Statement.{statement}
+use Rattle.candidate.proofs.eliminated.Tie as tie
 
 returns : tie.Need-returns
 unfolding ofBits

@@ -1,4 +1,4 @@
--- The chain of the closed cycle, test by test and run by run.
+-- The candidate: the system, the runs and elimination; its acceptance, test by test.
 use mathlib.Core.Path.{_≡_, refl, sym, ap, _∙_}
 use mathlib.Core.Bool.{Bool, true, false, cond}
 use mathlib.Core.List.{List, []}

@@ -1,13 +1,13 @@
--- `periodic::solution` meets its contract.
+-- `candidate::solution` meets its contract.
 use mathlib.Core.Path.{_≡_, sym, _∙_}
 use borrow.Author.Needs.{needs}
 use lib.ListN.{take}
 use lib.Ieee.{ofBits}
 use Rattle.events.specs.Packed.{packed}
 use Rattle.simulation.specs.KernelRun.{propagatorOf}
-use Rattle.periodic.proofs.Chain.{zero-front, solution-stops, columns-stop, solution-solves}
-use Rattle.periodic.proofs.solution.Statement.{statement}
-use Rattle.periodic.proofs.solution.Tie as tie
+use Rattle.candidate.proofs.Chain.{zero-front, solution-stops, columns-stop, solution-solves}
+use Rattle.candidate.proofs.solution.Statement.{statement}
+use Rattle.candidate.proofs.solution.Tie as tie
 
 returns : tie.Need-returns
 unfolding ofBits
