@@ -52,11 +52,9 @@ pub fn encoded(events: &[Event]) -> Vec<u64> {
     events.iter().flat_map(words).collect()
 }
 
-/// The number of a refusal of the Rust's fold; none of them has a time. 10, 11
-/// and 12 are those of a run's preparation.
-pub fn fold_number(error: &Error) -> u64 {
-    assert!(error.time.is_none(), "a refusal with a time: {error:?}");
-    match (error.code, error.message.as_str()) {
+/// The number of a refusal that is the fold's own.
+fn own_fold_number(error: &Error) -> Option<u64> {
+    let number = match (error.code, error.message.as_str()) {
         (ErrorCode::InvalidInput, "periodic cycle must have finite increasing endpoints") => 15,
         (
             ErrorCode::WorkBudget,
@@ -68,11 +66,19 @@ pub fn fold_number(error: &Error) -> u64 {
             "periodic infusion must have nonnegative finite amount and a finite representable positive duration",
         ) => 17,
         (ErrorCode::InvalidInput, "periodic overlap count overflow") => 18,
-        _ => match run_number(error) {
-            number @ 10..=12 => number,
-            _ => panic!("a refusal without a number: {error:?}"),
-        },
-    }
+        _ => return None,
+    };
+    assert!(error.time.is_none(), "a refusal with a time: {error:?}");
+    Some(number)
+}
+
+/// The number of a refusal of the Rust's fold. 10, 11 and 12 are those of a
+/// run's preparation.
+pub fn fold_number(error: &Error) -> u64 {
+    own_fold_number(error).unwrap_or_else(|| match run_number(error) {
+        number @ 10..=12 => number,
+        _ => panic!("a refusal without a number: {error:?}"),
+    })
 }
 
 /// The number of a refusal of the Rust's closed cycle: its own, those of the
@@ -92,10 +98,9 @@ pub fn steady_number(error: &Error) -> u64 {
         (ErrorCode::Domain, false, "steady-state solution is not finite and nonnegative") => 34,
         (ErrorCode::InvalidInput, false, "steady-state tolerance scale overflow") => 35,
         (ErrorCode::Solver, false, "steady-state cycle residual exceeds tolerance") => 36,
-        (_, false, text) if text.starts_with("periodic ") => fold_number(error),
-        _ => match run_number(error) {
+        _ => own_fold_number(error).unwrap_or_else(|| match run_number(error) {
             3 => panic!("3 in a cycle: {error:?}"),
             number => number,
-        },
+        }),
     }
 }
