@@ -3,7 +3,7 @@ use mathlib.Core.Path.{_≡_, refl, ap, ap₂, sym, _∙_}
 use mathlib.Core.Bool.{Bool, true, false, _&&_, _||_}
 use mathlib.Core.List.{List, [], _∷_, _++_, zipWith}
 use Prim.Native.Nat.{ℕ, zero, suc, _+_, _≤_}
-use native.Mathlib.Nat.{add-zero, zero-add, suc-add, add-suc, le-antisymm}
+use native.Mathlib.Nat.{le-antisymm}
 use native.Mathlib.Numerals.{add-one}
 use native.Mathlib.Omega.{arith}
 use lib.ListN.{length, getD, set, take}
@@ -17,6 +17,7 @@ use Rattle.protocol.specs.Schedule.{marked}
 use Rattle.protocol.specs.declared.Event.{Event}
 use Rattle.protocol.specs.declared.Event.the-variants.{Bolus, Infusion, Reset}
 use Rattle.events.specs.Packed.{eventAt, packed, stopsAt, markedBy}
+use Rattle.events.proofs.Packing.{tabulate-snoc}
 use Rattle.events.proofs.Scans.{any-append, or-none, or-regroup}
 
 module _ {A : Type 0} where
@@ -49,15 +50,6 @@ module _ {A : Type 0} where
   updated-same : (g : ℕ → A → A) → ((k : ℕ) (x : A) → g k x ≡ x) → (m : ℕ) (xs : List A) → updated m g xs ≡ xs
   unfolding updated
   updated-same g e m xs = from-same g e 0 m xs
-
-  from-snoc : (f : ℕ → A) (i m : ℕ) → tabulateFrom i (suc m) f ≡ tabulateFrom i m f ++ (f (i + m) ∷ [])
-  unfolding tabulateFrom
-  from-snoc f i zero = rw add-zero
-  from-snoc f i (suc m) = ap (_∷_ (f i)) (from-snoc f (suc i) m ∙ rw (suc-add, ← add-suc))
-
-  tabulate-snoc : (f : ℕ → A) (m : ℕ) → tabulate (m + 1) f ≡ tabulate m f ++ (f m ∷ [])
-  unfolding tabulate
-  tabulate-snoc f m = rw add-one (rw zero-add at (from-snoc f 0 m))
 
 from-zip : {A B : Type 0} (h : A → B → B) (f : ℕ → A) (i m : ℕ) (xs : List B) → take m (updatedFrom i m (λ k x. h (f k) x) xs) ≡ zipWith h (tabulateFrom i m f) (take m xs)
 unfolding updatedFrom tabulateFrom zipWith

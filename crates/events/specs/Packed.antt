@@ -4,7 +4,8 @@ use mathlib.Core.Option.{Option, some, none}
 use mathlib.Core.Bool.{Bool, false, cond, _&&_, _||_}
 use Prim.Native.Nat.{ℕ, zero, suc, _%_}
 use lib.Dec.{eqb}
-use lib.ListN.{getD}
+use mathlib.Core.Path.{_≡_}
+use lib.ListN.{length, getD}
 use lib.Ieee.{Float, nan, eq}
 use Rattle.binary64.specs.Doubles.{plusZero}
 use Rattle.matrix.specs.Matrix.{tabulate}
@@ -44,6 +45,12 @@ wordsOf (Reset t i v o c) = 2 ∷ i ∷ o ∷ bit c ∷ []
 -- the first n events
 unfoldable pub packed : List (List Float) → List (List ℕ) → ℕ → List Event
 packed rs ws n = tabulate n (eventAt rs ws)
+
+-- arrays of 192 places, the first n of which hold es
+pub record Packs (rs : List (List Float)) (ws : List (List ℕ)) (n : ℕ) (es : List Event) : Type 0 where
+  pub reals : length rs ≡ 192
+  pub words : length ws ≡ 192
+  pub held : packed rs ws n ≡ es
 
 -- an event or its end is at t
 abbrev pub happens : Float → Event → Bool

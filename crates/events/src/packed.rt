@@ -3,10 +3,11 @@ use crate::EVENTS;
 use protocol::Event;
 ghost use mathlib.Core.Path.{_≡_};
 ghost use Rattle.protocol.specs.Events.{time as timeOf, target as targetOf};
-ghost use Prim.Native.Nat.{_≤_, _<_};
+ghost use mathlib.Core.List.{[], _∷_, _++_};
+ghost use Prim.Native.Nat.{_≤_, _<_, _+_};
 ghost use lib.ListN.{length, take};
-ghost use Rattle.protocol.specs.Events.{order};
-ghost use Rattle.events.specs.Packed.{eventAt, packed, realsOf, wordsOf, bit};
+ghost use Rattle.protocol.specs.Events.{order, noEvent};
+ghost use Rattle.events.specs.Packed.{eventAt, packed, Packs, realsOf, wordsOf, bit};
 
 // The event at place i.
 pub fn event_at(reals: &[[f64; 3]; EVENTS], words: &[[usize; 4]; EVENTS], i: usize) -> Event
@@ -14,26 +15,29 @@ pub fn event_at(reals: &[[f64; 3]; EVENTS], words: &[[usize; 4]; EVENTS], i: usi
     ensures { λ r. ⌜ r ≡ eventAt (now (reals .entry)) (now (words .entry)) i ⌝ }
 {
     let kind = words[i][0];
+    let target = words[i][1];
+    let time = reals[i][0];
+    let amount = reals[i][1];
     if kind == 0 {
         return Event::Bolus {
-            time: reals[i][0],
-            target: words[i][1],
-            amount: reals[i][1],
+            time,
+            target,
+            amount,
         };
     }
     if kind == 1 {
         return Event::Infusion {
-            time: reals[i][0],
-            target: words[i][1],
-            amount: reals[i][1],
+            time,
+            target,
+            amount,
             duration: reals[i][2],
         };
     }
     let order = (words[i][2] % 65536) as u16;
     Event::Reset {
-        time: reals[i][0],
-        target: words[i][1],
-        value: reals[i][1],
+        time,
+        target,
+        value: amount,
         order,
         stops: words[i][3] == 1,
     }
@@ -96,6 +100,20 @@ fn words_of(event: Event) -> [usize; 4]
     }
 }
 
+// The event at place `at`, behind those ahead of it.
+pub fn put(
+    event: Event,
+    reals: &mut [[f64; 3]; EVENTS],
+    words: &mut [[usize; 4]; EVENTS],
+    at: usize,
+)
+    requires { ⌜ (at < 192) × (length (now reals) ≡ 192) × (length (now words) ≡ 192) ⌝ }
+    ensures { λ _. ⌜ Packs (now (reals .exit)) (now (words .exit)) (at + 1) (packed (now (reals .entry)) (now (words .entry)) at ++ (event ∷ [])) ⌝ }
+{
+    reals[at] = reals_of(event);
+    words[at] = words_of(event);
+}
+
 // The first count events, packed.
 pub fn pack(
     events: [Event; EVENTS],
@@ -108,8 +126,18 @@ pub fn pack(
 {
     for i in 0..count {
         let event = events[i];
-        reals[i] = reals_of(event);
-        words[i] = words_of(event);
+        put(event, reals, words, i);
+    }
+}
+
+// What stands past the last event.
+pub fn no_event() -> Event
+    ensures { λ r. ⌜ r ≡ noEvent ⌝ }
+{
+    Event::Bolus {
+        time: 0.0,
+        target: 0,
+        amount: 0.0,
     }
 }
 

@@ -6,8 +6,8 @@ use Prim.Native.Nat.{ℕ, _+_, _*_, _/_, _%_}
 use lib.Dec.{eqb, leb, ltb}
 use lib.ListN.{length, getD}
 use lib.Ieee.{Float, binary64, ofBits}
-use Rattle.binary64.specs.Doubles.{plusZero}
 use Rattle.matrix.specs.Matrix.{tabulate, allTo}
+use Rattle.protocol.specs.Events.{noEvent}
 use Rattle.protocol.specs.declared.Event.{Event}
 use Rattle.protocol.specs.declared.Event.the-variants.{Bolus, Infusion, Reset}
 
@@ -46,10 +46,6 @@ eventOf ws i = eventFrom (wordAt ws i 0) (wordAt ws i 1) (wordAt ws i 2) (wordAt
 unfoldable pub eventsOf : List ℕ → List Event
 unfolding eventOf
 eventsOf ws = tabulate (eventCount ws) (eventOf ws)
-
--- what stands past the last event
-abbrev pub noEvent : Event
-noEvent = Bolus plusZero 0 plusZero
 
 unfoldable pub eventOrNone : List ℕ → ℕ → Event
 unfolding eventOf

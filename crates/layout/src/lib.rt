@@ -5,7 +5,7 @@ ghost use mathlib.Core.Path.{_≡_};
 ghost use Prim.Native.Nat.{_+_, _*_, _≤_, _<_};
 ghost use lib.ListN.{length};
 ghost use Rattle.matrix.specs.Matrix.{tabulate};
-ghost use Rattle.layout.specs.Layout.{wordAt, listedOf, eventFits, eventsFit, eventFrom, eventOf, noEvent, eventOrNone};
+ghost use Rattle.layout.specs.Layout.{wordAt, listedOf, eventFits, eventsFit, eventFrom, eventOf, eventOrNone};
 
 // Words of an event.
 const WORDS: usize = 6;
@@ -93,24 +93,13 @@ pub fn event_of(words: &[u64], i: usize) -> Event
     )
 }
 
-// What stands past the last event.
-pub fn no_event() -> Event
-    ensures { λ r. ⌜ r ≡ noEvent ⌝ }
-{
-    Event::Bolus {
-        time: 0.0,
-        target: 0,
-        amount: 0.0,
-    }
-}
-
 fn event_or_none(words: &[u64], i: usize) -> Event
     ensures { λ r. ⌜ r ≡ eventOrNone (now (words .entry)) i ⌝ }
 {
     if i < words.len() / WORDS {
         event_of(words, i)
     } else {
-        no_event()
+        events::no_event()
     }
 }
 
@@ -118,7 +107,7 @@ fn event_or_none(words: &[u64], i: usize) -> Event
 pub fn events_of(words: &[u64]) -> [Event; EVENTS]
     ensures { λ r. ⌜ r ≡ tabulate 192 (eventOrNone (now (words .entry))) ⌝ }
 {
-    let none = no_event();
+    let none = events::no_event();
     let mut list = [none; EVENTS];
     for i in 0..EVENTS {
         list[i] = event_or_none(words, i);

@@ -13,7 +13,7 @@ use Rattle.matrix.specs.Exponential.{Scheme, rowSum, normTo, countOf, ta
 use Rattle.matrix.proofs.Rows.{sum-cong, all-cong, lead-at}
 
 -- ---- what is read of an array is its leading part
-norm-lead : (m : ℕ) (a : Matrix) (k : ℕ) → k ≤ m → normTo a m k ≡ normTo (lead m a) m k
+pub norm-lead : (m : ℕ) (a : Matrix) (k : ℕ) → k ≤ m → normTo a m k ≡ normTo (lead m a) m k
 unfolding normTo rowSum
 norm-lead m a zero h = refl
 norm-lead m a (suc k) h = ap₂ larger (norm-lead m a k (omega arith)) (sum-cong m (λ j q. ap magnitude (sym (lead-at m a k j h q))))

@@ -83,3 +83,9 @@ module _ {A : Type 0} where
   pub tabulate-at : (f : ℕ → A) (d : A) (m k : ℕ) → k < m → getD (tabulate m f) k d ≡ f k
   unfolding tabulate
   tabulate-at f d m k h = rw zero-add at (from-at f d 0 m k h)
+
+  -- the first of equal cells
+  pub take-replicate : (n w : ℕ) (z : A) → n ≤ w → take n (replicate w z) ≡ replicate n z
+  take-replicate zero w z h = refl
+  take-replicate (suc n) zero z h = absurd (not-suc-le-zero h)
+  take-replicate (suc n) (suc w) z h = ap {B = List A} (λ r. z ∷ r) (take-replicate n w z (le-of-suc-le-suc h))

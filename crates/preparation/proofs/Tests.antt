@@ -3,8 +3,9 @@ use mathlib.Core.Path.{_≡_, refl}
 use mathlib.Core.Bool.{Bool, true, false}
 use mathlib.Core.List.{List, [], _∷_}
 use mathlib.Core.Option.{Option, some, none}
-use Prim.Native.Nat.{ℕ, suc, _+_, _*_, _≤_}
+use Prim.Native.Nat.{ℕ, suc, _+_, _*_, _≤_, _<_}
 use native.Mathlib.Omega.{arith}
+use borrow.Author.Tests.{lt-leb, le-leb}
 use lib.Dec.{leb}
 use lib.ListN.{length, take}
 use lib.Ieee.{Float}
@@ -20,17 +21,44 @@ use Rattle.refusal.specs.declared.Refusal.{Refusal}
 use Rattle.refusal.specs.declared.Refusal.the-variants as R
 use Rattle.linear_pk.specs.LinearPk.{sound, stateCount}
 use Rattle.linear_pk.specs.declared.kernel.LinearPk.{LinearPk}
-use Rattle.preparation.specs.Preparation.{prepareEntry, numberOf}
+use Rattle.preparation.specs.Preparation.{validateOf, prepareEntry, numberOf}
 use Rattle.events.specs.Packed.{packed}
 use Rattle.events.proofs.Packing.{packed-length}
 
-pub prepare-by :
-    (n : ℕ) (w : Window) (ss : List Float) (rs : List (List Float)) (ws : List (List ℕ)) (count : ℕ) {b c d e f : Bool}
-    → b ≡ leb count (w .events) → c ≡ windowPasses w → d ≡ all (within w) ss → e ≡ eventsPass n w [] (packed rs ws count)
-    → f ≡ leb ((4 * count + length ss + 2) * n) (w .outputs)
-    → prepare n w ss (packed rs ws count) ≡ firstOf (unless b 13 ∷ unless c 10 ∷ unless d 11 ∷ unless e 12 ∷ unless f 14 ∷ [])
-unfolding prepare
-prepare-by n w ss rs ws count p q r s t = rw (packed-length rs ws count, ← p, ← q, ← r, ← s, ← t)
+-- `validate`, test by test
+module _ (n : ℕ) (w : Window) (ss : List Float) (es : List Event) {b : Bool} (p : b ≡ windowPasses w) where
+  pub window-fails : b ≡ false → 10 ≡ numberOf (validateOf n w ss es)
+  unfolding validateOf
+  window-fails f = rw (← p, f)
+
+  module _ {c : Bool} (q : c ≡ all (within w) ss) (t : b ≡ true) where
+    pub sample-fails : c ≡ false → 11 ≡ numberOf (validateOf n w ss es)
+    unfolding validateOf
+    sample-fails f = rw (← p, t, ← q, f)
+
+    module _ {d : Bool} (r : d ≡ eventsPass n w [] es) (u : c ≡ true) where
+      pub event-fails : d ≡ false → 12 ≡ numberOf (validateOf n w ss es)
+      unfolding validateOf
+      event-fails f = rw (← p, t, ← q, u, ← r, f)
+
+      pub valid : d ≡ true → 0 ≡ numberOf (validateOf n w ss es)
+      unfolding validateOf
+      valid f = rw (← p, t, ← q, u, ← r, f)
+
+-- the preparation is 13, `validate`, 14
+prepare-by :
+    (n : ℕ) (w : Window) (ss : List Float) (rs : List (List Float)) (ws : List (List ℕ)) (count : ℕ) {b f : Bool} → b ≡ leb count (w .events) → f ≡ leb ((4 * count + length ss + 2) * n) (w .outputs)
+    → prepare n w ss (packed rs ws count) ≡ firstOf (unless b 13 ∷ validateOf n w ss (packed rs ws count) ∷ unless f 14 ∷ [])
+unfolding prepare validateOf
+prepare-by n w ss rs ws count {b} {f} p t =
+    rw (packed-length rs ws count, ← p, ← t) (on b (windowPasses w) (all (within w) ss) (eventsPass n w [] (packed rs ws count)) f)
+  where
+    on : (a b c d e : Bool) → firstOf (unless a 13 ∷ unless b 10 ∷ unless c 11 ∷ unless d 12 ∷ unless e 14 ∷ []) ≡ firstOf (unless a 13 ∷ firstOf (unless b 10 ∷ unless c 11 ∷ unless d 12 ∷ []) ∷ unless e 14 ∷ [])
+    on true true true true e = refl
+    on true true true false e = refl
+    on true true false d e = refl
+    on true false c d e = refl
+    on false b c d e = refl
 
 first-one : (o : Option ℕ) → firstOf (o ∷ []) ≡ o
 first-one none = refl
@@ -79,20 +107,46 @@ first-refused none os h e = absurd (no h e)
     no h e = omega arith
 first-refused (some k) os h e = e
 
+no-number : {A : Type 0} {c : ℕ} → 0 ≡ suc c → A
+no-number e = absurd (never e)
+  where
+    never : {c : ℕ} → 0 ≡ suc c → ⊥
+    never e = omega arith
+
+pub validate-passes : (n : ℕ) (w : Window) (ss : List Float) (es : List Event) → 0 ≡ numberOf (validateOf n w ss es) → validateOf n w ss es ≡ none
+unfolding validateOf
+validate-passes n w ss es = on (windowPasses w) (all (within w) ss) (eventsPass n w [] es)
+  where
+    on : (b c d : Bool) → 0 ≡ numberOf (firstOf (unless b 10 ∷ unless c 11 ∷ unless d 12 ∷ [])) → firstOf (unless b 10 ∷ unless c 11 ∷ unless d 12 ∷ []) ≡ none
+    on true true true h = refl
+    on true true false h = no-number {c = 11} h
+    on true false d h = no-number {c = 10} h
+    on false c d h = no-number {c = 9} h
+
+-- so it is 13; `validate`'s number; 14; none
+module _ (n : ℕ) (w : Window) (ss : List Float) (rs : List (List Float)) (ws : List (List ℕ)) (count : ℕ) where
+  pub budget-fails : w .events < count → 13 ≡ numberOf (prepare n w ss (packed rs ws count))
+  budget-fails h = rw (prepare-by n w ss rs ws count refl refl, lt-leb _ _ h)
+
+  module _ (h : count ≤ w .events) where
+    pub validate-fails : {c : ℕ} → 1 ≤ c → c ≡ numberOf (validateOf n w ss (packed rs ws count)) → c ≡ numberOf (prepare n w ss (packed rs ws count))
+    validate-fails l e = rw (prepare-by n w ss rs ws count refl refl, le-leb _ _ h) (first-refused (validateOf n w ss (packed rs ws count)) (unless (leb ((4 * count + length ss + 2) * n) (w .outputs)) 14 ∷ []) l e)
+
+    module _ (e : 0 ≡ numberOf (validateOf n w ss (packed rs ws count))) where
+      pub rows-fail : w .outputs < (4 * count + length ss + 2) * n → 14 ≡ numberOf (prepare n w ss (packed rs ws count))
+      rows-fail g = rw (prepare-by n w ss rs ws count refl refl, le-leb _ _ h, validate-passes n w ss (packed rs ws count) e, lt-leb _ _ g)
+
+      pub prepares : (4 * count + length ss + 2) * n ≤ w .outputs → 0 ≡ numberOf (prepare n w ss (packed rs ws count))
+      prepares g = rw (prepare-by n w ss rs ws count refl refl, le-leb _ _ h, validate-passes n w ss (packed rs ws count) e, le-leb _ _ g)
+
 pub prepare-passes : (n : ℕ) (w : Window) (ss : List Float) (es : List Event) → 0 ≡ numberOf (prepare n w ss es) → prepare n w ss es ≡ none
 unfolding prepare
 prepare-passes n w ss es = on (leb (length es) (w .events)) (windowPasses w) (all (within w) ss) (eventsPass n w [] es) (leb (reckoned ss es * n) (w .outputs))
   where
-    no : {A : Type 0} {c : ℕ} → 0 ≡ suc c → A
-    no e = absurd (never e)
-      where
-        never : {c : ℕ} → 0 ≡ suc c → ⊥
-        never e = omega arith
-
     on : (a b c d e : Bool) → 0 ≡ numberOf (firstOf (unless a 13 ∷ unless b 10 ∷ unless c 11 ∷ unless d 12 ∷ unless e 14 ∷ [])) → firstOf (unless a 13 ∷ unless b 10 ∷ unless c 11 ∷ unless d 12 ∷ unless e 14 ∷ []) ≡ none
     on true true true true true h = refl
-    on true true true true false h = no {c = 13} h
-    on true true true false e h = no {c = 11} h
-    on true true false d e h = no {c = 10} h
-    on true false c d e h = no {c = 9} h
-    on false b c d e h = no {c = 12} h
+    on true true true true false h = no-number {c = 13} h
+    on true true true false e h = no-number {c = 11} h
+    on true true false d e h = no-number {c = 10} h
+    on true false c d e h = no-number {c = 9} h
+    on false b c d e h = no-number {c = 12} h

@@ -6,13 +6,14 @@ use Prim.Native.Nat.{ℕ, zero, suc}
 use lib.Dec.{leb}
 use lib.ListN.{length, take}
 use lib.Ieee.{Float}
+use Rattle.binary64.specs.Lists.{all}
 use Rattle.refusal.specs.Result.{Result, refused, done}
 use Rattle.linear_pk.specs.LinearPk.{sound, stateCount}
 use Rattle.linear_pk.specs.declared.kernel.LinearPk.{LinearPk}
 use Rattle.events.specs.Packed.{eventAt}
 use Rattle.protocol.specs.First.{unless, firstOf}
 use Rattle.protocol.specs.Entry.{mostEvents, mostSamples}
-use Rattle.protocol.specs.Prepare.{prepare}
+use Rattle.protocol.specs.Prepare.{windowPasses, within, eventsPass, prepare}
 use Rattle.protocol.specs.declared.Event.{Event}
 use Rattle.protocol.specs.declared.Window.{Window}
 
@@ -20,6 +21,10 @@ use Rattle.protocol.specs.declared.Window.{Window}
 abbrev pub ownNumber : Result LinearPk → Option ℕ
 ownNumber (refused c) = some c
 ownNumber (done k) = none
+
+-- `validate`: the tests of window, samples and events
+unfoldable pub validateOf : ℕ → Window → List Float → List Event → Option ℕ
+validateOf n w ss es = firstOf (unless (windowPasses w) 10 ∷ unless (all (within w) ss) 11 ∷ unless (eventsPass n w [] es) 12 ∷ [])
 
 -- `prepare_simulation` of the first `count` events: 5, a kernel that is none, the preparation
 unfoldable pub prepareEntry : LinearPk → Window → List Float → List Event → ℕ → Option ℕ

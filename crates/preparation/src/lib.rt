@@ -14,7 +14,7 @@ ghost use mathlib.Core.List.{[]};
 ghost use Rattle.binary64.specs.Lists.{any, all};
 ghost use Rattle.protocol.specs.Prepare.{windowPasses, within as withinOf, sameReset, valuesPass, eventPasses, eventsPass, reckoned, prepare};
 ghost use Rattle.events.specs.Packed.{eventAt, packed};
-ghost use Rattle.preparation.specs.Preparation.{seen, numberOf, prepareEntry};
+ghost use Rattle.preparation.specs.Preparation.{seen, numberOf, validateOf, prepareEntry};
 
 // The most samples of a run.
 pub const SAMPLES: usize = 256;
@@ -164,6 +164,30 @@ fn events_pass(
     ok
 }
 
+// Whether window, samples and packed events pass for n states: 10, 11, 12.
+pub fn validate(
+    n: usize,
+    window: Window,
+    samples: &[f64],
+    reals: &[[f64; 3]; EVENTS],
+    words: &[[usize; 4]; EVENTS],
+    count: usize,
+) -> Reply
+    requires { ⌜ count ≤ 192 ⌝ }
+    ensures { λ r. ⌜ replyNumber r ≡ numberOf (validateOf n window (now (samples .entry)) (packed (now (reals .entry)) (now (words .entry)) count)) ⌝ }
+{
+    if !window_passes(window) {
+        return Reply::Refused(Refusal::Window);
+    }
+    if !all_within(window, samples) {
+        return Reply::Refused(Refusal::Sample);
+    }
+    if !events_pass(n, window, reals, words, count) {
+        return Reply::Refused(Refusal::Event);
+    }
+    Reply::Done
+}
+
 // Whether a run of n states takes the packed list: 13, 10, 11, 12, 14.
 pub fn prepared(
     n: usize,
@@ -179,20 +203,17 @@ pub fn prepared(
     if count > window.events {
         return Reply::Refused(Refusal::EventBudget);
     }
-    if !window_passes(window) {
-        return Reply::Refused(Refusal::Window);
+    let valid = validate(n, window, samples, reals, words, count);
+    match valid {
+        Reply::Refused(refusal) => Reply::Refused(refusal),
+        Reply::Done => {
+            let rows = 4 * count + samples.len() + 2;
+            if rows * n > window.outputs {
+                return Reply::Refused(Refusal::OutputBudget);
+            }
+            Reply::Done
+        }
     }
-    if !all_within(window, samples) {
-        return Reply::Refused(Refusal::Sample);
-    }
-    if !events_pass(n, window, reals, words, count) {
-        return Reply::Refused(Refusal::Event);
-    }
-    let rows = 4 * count + samples.len() + 2;
-    if rows * n > window.outputs {
-        return Reply::Refused(Refusal::OutputBudget);
-    }
-    Reply::Done
 }
 
 // Whether a run of the kernel takes the first count events: 5, the kernel's own 1 and 2, then 13, 10, 11, 12, 14.

@@ -5,7 +5,7 @@ use mathlib.Core.Bool.{Bool, false, _&&_}
 use mathlib.Core.List.{List, [], _∷_}
 use lib.Dec.{leb, eqb}
 use lib.Ieee.{Float, binary64, add, lt, eq}
-use Rattle.binary64.specs.Doubles.{totalLe}
+use Rattle.binary64.specs.Doubles.{plusZero, totalLe}
 use Rattle.binary64.specs.Sort.{sortBy, firsts}
 use Rattle.protocol.specs.declared.Event.{Event}
 use Rattle.protocol.specs.declared.Event.the-variants.{Bolus, Infusion, Reset}
@@ -21,6 +21,10 @@ unfoldable pub target : Event → ℕ
 target (Bolus t i a) = i
 target (Infusion t i a d) = i
 target (Reset t i v o c) = i
+
+-- what stands in an array past the last event of a list
+abbrev pub noEvent : Event
+noEvent = Bolus plusZero 0 plusZero
 
 -- a reset's order
 abbrev pub order : Event → ℕ

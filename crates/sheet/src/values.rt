@@ -119,7 +119,7 @@ fn event_or_none(part: &[u8], i: usize) -> Event
     if i < part.len() / 8 / EVENT {
         event_of(part, i)
     } else {
-        layout::no_event()
+        events::no_event()
     }
 }
 
@@ -127,7 +127,7 @@ fn event_or_none(part: &[u8], i: usize) -> Event
 pub fn events_of(part: &[u8]) -> [Event; EVENTS]
     ensures { λ r. ⌜ r ≡ tabulate 192 (eventOrNone (wordsOf (now (part .entry)))) ⌝ }
 {
-    let none = layout::no_event();
+    let none = events::no_event();
     let mut list = [none; EVENTS];
     for i in 0..EVENTS {
         list[i] = event_or_none(part, i);

@@ -4,7 +4,8 @@ use borrow.Author.Needs.{needs}
 use native.Mathlib.Omega.{arith}
 use Prim.Native.Nat.{_≤_, _-_}
 use Rattle.matrix.proofs.Filled.{fill, fillFrom, fill-more, filled}
-use Rattle.layout.specs.Layout.{noEvent, eventOrNone}
+use Rattle.protocol.specs.Events.{noEvent}
+use Rattle.layout.specs.Layout.{eventOrNone}
 use Rattle.sheet.specs.Sheet.{wordsOf}
 use Rattle.sheet.proofs.values.events_of.Statement.{statement}
 use Rattle.sheet.proofs.values.events_of.Tie as tie

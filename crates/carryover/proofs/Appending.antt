@@ -1,0 +1,106 @@
+-- Pieces behind a packed list, one behind the other.
+use mathlib.Core.Path.{_≡_, refl, ap, sym, _∙_}
+use mathlib.Core.Bool.{Bool, true, false}
+use mathlib.Core.List.{List, [], _∷_, _++_, append-assoc}
+use Prim.Native.Nat.{ℕ, _+_, _≤_}
+use native.Mathlib.Omega.{arith}
+use lib.ListN.{length}
+use lib.Ieee.{Float, binary64, sub, div, rem, lt, le}
+use lib.Ieee.Scale.{finite}
+use Rattle.binary64.specs.Doubles.{plusZero, one, smaller, floorOf}
+use Rattle.refusal.specs.Result.{Result, refused, done, unless}
+use Rattle.refusal.specs.Numbers.{refusalNumber}
+use Rattle.refusal.specs.declared.Refusal.{Refusal}
+use Rattle.refusal.specs.declared.Reply.the-variants.{Done, Refused}
+use Rattle.protocol.specs.declared.Event.{Event}
+use Rattle.protocol.specs.declared.Window.{Window}
+use Rattle.events.specs.Packed.{packed, Packs}
+use Rattle.cycle.specs.Fold.{period, whole, piece, headOf, tail, parts, wholes, lasting}
+use Rattle.carryover.specs.Appended.{behind, Appends, Replies}
+use Rattle.carryover.specs.declared.pieces.Folding.{Folding}
+
+pub append-nil : {A : Type 0} (xs : List A) → xs ++ [] ≡ xs
+append-nil [] = refl
+append-nil (x ∷ xs) = ap (_∷_ x) (append-nil xs)
+
+module _ (rs : List (List Float)) (ws : List (List ℕ)) (at : ℕ) where
+  pub append-none : (k : ℕ) → length rs ≡ 192 → length ws ≡ 192 → Appends rs ws at rs ws at k []
+  append-none k a b = record { packs = record { reals = a; words = b; held = sym (append-nil (packed rs ws at)) }; room = omega arith }
+
+  module _ {rs' : List (List Float)} {ws' : List (List ℕ)} {m j : ℕ} {ps : List Event} (h : Appends rs ws at rs' ws' m j ps) where
+    pub append-two :
+        {rs'' : List (List Float)} {ws'' : List (List ℕ)} {n k : ℕ} {qs : List Event} → Appends rs' ws' m rs'' ws'' n k qs
+        → Appends rs ws at rs'' ws'' n (j + k) (ps ++ qs)
+    append-two {qs = qs} g =
+        let p = h .packs in
+        let q = g .packs in
+        record {
+          packs = record { reals = q .reals; words = q .words; held = q .held ∙ ap (λ (es : List Event). es ++ qs) (p .held) ∙ append-assoc (packed rs ws at) ps qs };
+          room = omega (arith, h .room, g .room);
+        }
+
+    pub append-same : {qs : List Event} → qs ≡ ps → (k : ℕ) → j ≤ k → Appends rs ws at rs' ws' m k qs
+    append-same e k l =
+        let p = h .packs in
+        record { packs = record { reals = p .reals; words = p .words; held = p .held ∙ ap (λ (es : List Event). packed rs ws at ++ es) (sym e) }; room = omega (arith, h .room) }
+
+    pub replies-done : {o : Result (List Event)} → j ≤ 3 → o ≡ done ps → Replies rs ws at rs' ws' (record { reply = Done; count = m }) o
+    replies-done l e =
+        record {
+          reals = h .packs .reals;
+          words = h .packs .words;
+          held = ap done (h .packs .held) ∙ sym (ap (behind (packed rs ws at)) e);
+          room = omega (arith, h .room);
+        }
+
+  pub append-put : {rs' : List (List Float)} {ws' : List (List ℕ)} {e : Event} → Packs rs' ws' (at + 1) (packed rs ws at ++ (e ∷ [])) → Appends rs ws at rs' ws' (at + 1) 1 (e ∷ [])
+  append-put p = record { packs = p; room = omega arith }
+
+  pub replies-refused :
+      (rs' : List (List Float)) (ws' : List (List ℕ)) (x : Refusal) {r : Folding} {o : Result (List Event)} → length rs' ≡ 192 → length ws' ≡ 192 → (r .reply ≡ Refused x) × (r .count ≡ 0) → o ≡ refused (refusalNumber x)
+      → Replies rs ws at rs' ws' r o
+  replies-refused rs' ws' x a b q e = record { reals = a; words = b; held = rw (q .0, e); room = omega (arith, q .1) }
+
+  pub replies-same :
+      {rs' : List (List Float)} {ws' : List (List ℕ)} {r : Folding} {o u : Result (List Event)} → Replies rs ws at rs' ws' r o → u ≡ o → Replies rs ws at rs' ws' r u
+  replies-same h e = record { reals = h .reals; words = h .words; held = h .held ∙ sym (ap (behind (packed rs ws at)) e); room = h .room }
+
+-- ---- the pieces of an infusion
+module _ (w : Window) (i : ℕ) (r l : Float) where
+  pub tail-some : lt plusZero l ≡ true → tail w i r l ≡ piece (w .start) i r l ∷ []
+  tail-some h = rw h
+
+  pub tail-none : lt plusZero l ≡ false → tail w i r l ≡ []
+  tail-none h = rw h
+
+module _ (w : Window) (t : Float) (i : ℕ) (r left : Float) where
+  pub parts-none : lt plusZero left ≡ false → parts w t i r left ≡ []
+  unfolding parts
+  parts-none h = rw h
+
+  pub parts-some : {x : Float} → lt plusZero left ≡ true → x ≡ headOf w t left → parts w t i r left ≡ (piece t i r x ∷ []) ++ tail w i r (sub binary64 left x)
+  unfolding parts
+  parts-some h e = rw (h, e)
+
+  pub wholes-none : (c : Float) → le one c ≡ false → wholes w t i r left c ≡ parts w t i r left
+  unfolding wholes
+  wholes-none c h = rw h
+
+  pub wholes-some : (c : Float) → le one c ≡ true → wholes w t i r left c ≡ (whole w i r c ∷ []) ++ parts w t i r (rem binary64 left (period w))
+  unfolding wholes
+  wholes-some c h = rw h
+
+  pub lasting-stops : {b : Bool} → b ≡ true → lasting b w t i r left ≡ done (parts w t i r left)
+  unfolding lasting
+  lasting-stops h = rw h
+
+  module _ {b : Bool} (h : b ≡ false) {c : Float} (e : c ≡ floorOf (div binary64 left (period w))) {f : Bool} (g : f ≡ finite c) where
+    lasting-on : lasting b w t i r left ≡ unless f 18 (wholes w t i r left c)
+    unfolding lasting
+    lasting-on = rw (h, ← e, ← g)
+
+    pub lasting-over : f ≡ false → lasting b w t i r left ≡ refused 18
+    lasting-over q = lasting-on ∙ rw q
+
+    pub lasting-wholes : f ≡ true → lasting b w t i r left ≡ done (wholes w t i r left c)
+    lasting-wholes q = lasting-on ∙ rw q

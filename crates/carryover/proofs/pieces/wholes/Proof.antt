@@ -1,0 +1,22 @@
+-- `carryover::pieces::wholes` meets its contract.
+use mathlib.Core.Path.{_≡_, refl}
+use borrow.Author.Needs.{needs}
+use native.Mathlib.Omega.{arith}
+use lib.Ieee.{ofBits}
+use Rattle.carryover.proofs.Appending.{append-put, append-two, append-same, wholes-some, wholes-none}
+use Rattle.carryover.proofs.pieces.wholes.Statement.{statement}
+use Rattle.carryover.proofs.pieces.wholes.Tie as tie
+
+returns : tie.Need-returns
+unfolding ofBits
+returns c = append-same _ _ _ (append-two _ _ _ (append-put _ _ _ (c .before .before .before .put .ensures)) (c .parts .ensures)) (wholes-some _ _ _ _ _ _ (c .before .before .before .before .before .before .before .if1 .taken)) 3 (omega arith)
+
+returns-2 : tie.Need-returns-2
+unfolding ofBits
+returns-2 c = append-same _ _ _ (c .parts2 .ensures) (wholes-none _ _ _ _ _ _ (c .before .before .before .if1 .left)) 3 (omega arith)
+
+pub wholes-spec : {M : Type 1} → statement M
+wholes-spec =
+    tie.close
+    (tie.spec
+    (λ c κs. search needs) (λ c. search needs) (λ c κs. search needs) returns (λ c κs. search needs) returns-2)

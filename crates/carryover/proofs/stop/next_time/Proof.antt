@@ -1,0 +1,18 @@
+-- `carryover::stop::next_time` meets its contract.
+use mathlib.Core.Path.{_≡_, refl}
+use borrow.Author.Needs.{needs}
+use native.Mathlib.Omega.{arith}
+use Rattle.carryover.proofs.stop.next_time.Statement.{statement}
+use Rattle.carryover.proofs.stop.next_time.Tie as tie
+
+returns : tie.Need-returns
+returns c = rw (c .if1 .taken)
+
+returns-2 : tie.Need-returns-2
+returns-2 c = rw (c .if1 .left)
+
+pub next-time-spec : {M : Type 1} → statement M
+next-time-spec =
+    tie.close
+    (tie.spec
+    returns returns-2)

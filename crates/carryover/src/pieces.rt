@@ -1,0 +1,200 @@
+// The pieces of an infusion.
+use crate::stop;
+use events::EVENTS;
+use protocol::Event;
+use protocol::Window;
+use refusal::Refusal;
+use refusal::Reply;
+ghost use mathlib.Core.Path.{_≡_};
+ghost use mathlib.Core.List.{[], _∷_};
+ghost use Prim.Native.Nat.{_≤_, _+_};
+ghost use lib.ListN.{length};
+ghost use Rattle.events.specs.Packed.{packed};
+ghost use Rattle.protocol.specs.declared.Event.the-variants.{Infusion};
+ghost use Rattle.cycle.specs.Fold.{piece, whole, tail as tailOf, parts as partsOf, wholes as wholesOf, lasting as lastingOf, pieces};
+ghost use Rattle.carryover.specs.Appended.{Appends, Replies};
+
+// The reply, and how many places the list takes; 0 at a refusal.
+pub struct Folding {
+    pub reply: Reply,
+    pub count: usize,
+}
+
+pub fn refused(refusal: Refusal) -> Folding
+    ensures { λ r. ⌜ (r .reply ≡ Reply.Refused refusal) × (r .count ≡ 0) ⌝ }
+{
+    Folding {
+        reply: Reply::Refused(refusal),
+        count: 0,
+    }
+}
+
+// Of the rate over the duration, at the time.
+fn push_piece(
+    time: f64,
+    target: usize,
+    rate: f64,
+    duration: f64,
+    reals: &mut [[f64; 3]; EVENTS],
+    words: &mut [[usize; 4]; EVENTS],
+    at: usize,
+) -> usize
+    requires { ⌜ (at + 1 ≤ 192) × (length (now reals) ≡ 192) × (length (now words) ≡ 192) ⌝ }
+    ensures { λ r. ⌜ Appends (now (reals .entry)) (now (words .entry)) at (now (reals .exit)) (now (words .exit)) r 1 (piece time target rate duration ∷ []) ⌝ }
+{
+    let event = Event::Infusion {
+        time,
+        target,
+        amount: rate * duration,
+        duration,
+    };
+    events::put(event, reals, words, at);
+    at + 1
+}
+
+// What the head leaves, from the start, if above 0.
+fn tail(
+    window: Window,
+    target: usize,
+    rate: f64,
+    duration: f64,
+    reals: &mut [[f64; 3]; EVENTS],
+    words: &mut [[usize; 4]; EVENTS],
+    at: usize,
+) -> usize
+    requires { ⌜ (at + 1 ≤ 192) × (length (now reals) ≡ 192) × (length (now words) ≡ 192) ⌝ }
+    ensures { λ r. ⌜ Appends (now (reals .entry)) (now (words .entry)) at (now (reals .exit)) (now (words .exit)) r 1 (tailOf window target rate duration) ⌝ }
+{
+    if 0.0 < duration {
+        return push_piece(window.start, target, rate, duration, reals, words, at);
+    }
+    at
+}
+
+// Head and tail of what is left, each only if above 0.
+fn parts(
+    window: Window,
+    time: f64,
+    target: usize,
+    rate: f64,
+    left: f64,
+    reals: &mut [[f64; 3]; EVENTS],
+    words: &mut [[usize; 4]; EVENTS],
+    at: usize,
+) -> usize
+    requires { ⌜ (at + 2 ≤ 192) × (length (now reals) ≡ 192) × (length (now words) ≡ 192) ⌝ }
+    ensures { λ r. ⌜ Appends (now (reals .entry)) (now (words .entry)) at (now (reals .exit)) (now (words .exit)) r 2 (partsOf window time target rate left) ⌝ }
+{
+    if 0.0 < left {
+        let head = binary64::min(left, window.end - time);
+        let next = push_piece(time, target, rate, head, reals, words, at);
+        return tail(window, target, rate, left - head, reals, words, next);
+    }
+    at
+}
+
+// The whole periods, if there is one, then head and tail of the remainder.
+fn wholes(
+    window: Window,
+    time: f64,
+    target: usize,
+    rate: f64,
+    left: f64,
+    periods: f64,
+    reals: &mut [[f64; 3]; EVENTS],
+    words: &mut [[usize; 4]; EVENTS],
+    at: usize,
+) -> usize
+    requires { ⌜ (at + 3 ≤ 192) × (length (now reals) ≡ 192) × (length (now words) ≡ 192) ⌝ }
+    ensures { λ r. ⌜ Appends (now (reals .entry)) (now (words .entry)) at (now (reals .exit)) (now (words .exit)) r 3 (wholesOf window time target rate left periods) ⌝ }
+{
+    if 1.0 <= periods {
+        let period = window.end - window.start;
+        let event = Event::Infusion {
+            time: window.start,
+            target,
+            amount: (rate * period) * periods,
+            duration: period,
+        };
+        events::put(event, reals, words, at);
+        return parts(
+            window,
+            time,
+            target,
+            rate,
+            left % period,
+            reals,
+            words,
+            at + 1,
+        );
+    }
+    parts(window, time, target, rate, left, reals, words, at)
+}
+
+// No whole periods where a reset stops the target's infusions; else 18 where their count is not finite.
+fn lasting(
+    stops: bool,
+    window: Window,
+    time: f64,
+    target: usize,
+    rate: f64,
+    left: f64,
+    reals: &mut [[f64; 3]; EVENTS],
+    words: &mut [[usize; 4]; EVENTS],
+    at: usize,
+) -> Folding
+    requires { ⌜ (at + 3 ≤ 192) × (length (now reals) ≡ 192) × (length (now words) ≡ 192) ⌝ }
+    ensures { λ r. ⌜ Replies (now (reals .entry)) (now (words .entry)) at (now (reals .exit)) (now (words .exit)) r (lastingOf stops window time target rate left) ⌝ }
+{
+    if stops {
+        return Folding {
+            reply: Reply::Done,
+            count: parts(window, time, target, rate, left, reals, words, at),
+        };
+    }
+    let periods = binary64::floor(left / (window.end - window.start));
+    if !binary64::is_finite(periods) {
+        return refused(Refusal::Overlap);
+    }
+    Folding {
+        reply: Reply::Done,
+        count: wholes(window, time, target, rate, left, periods, reals, words, at),
+    }
+}
+
+// The pieces of an infusion of the list of count events: 17, 18.
+pub fn infusion(
+    window: Window,
+    reals: &[[f64; 3]; EVENTS],
+    words: &[[usize; 4]; EVENTS],
+    count: usize,
+    time: f64,
+    target: usize,
+    amount: f64,
+    duration: f64,
+    out_reals: &mut [[f64; 3]; EVENTS],
+    out_words: &mut [[usize; 4]; EVENTS],
+    at: usize,
+) -> Folding
+    requires { ⌜ (count ≤ 192) × (at + 3 ≤ 192) × (length (now «out_reals») ≡ 192) × (length (now «out_words») ≡ 192) ⌝ }
+    ensures { λ r. ⌜ Replies (now («out_reals» .entry)) (now («out_words» .entry)) at (now («out_reals» .exit)) (now («out_words» .exit)) r
+        (pieces window (packed (now (reals .entry)) (now (words .entry)) count) (Infusion time target amount duration)) ⌝ }
+{
+    if !stop::infusion_passes(time, amount, duration) {
+        return refused(Refusal::CycleInfusion);
+    }
+    let period = window.end - window.start;
+    let until = stop::stop_of(period, time, target, time + duration, reals, words, count);
+    let stops = stop::has_stop(target, reals, words, count);
+    lasting(
+        stops,
+        window,
+        time,
+        target,
+        amount / duration,
+        until - time,
+        out_reals,
+        out_words,
+        at,
+    )
+}

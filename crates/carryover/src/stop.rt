@@ -1,0 +1,116 @@
+// When an infusion stops.
+use events::EVENTS;
+use protocol::Event;
+ghost use mathlib.Core.Path.{_≡_};
+ghost use mathlib.Core.Bool.{cond};
+ghost use Prim.Native.Nat.{_≤_};
+ghost use Rattle.binary64.specs.Lists.{any};
+ghost use Rattle.protocol.specs.Events.{time as timeOf};
+ghost use Rattle.events.specs.Packed.{packed};
+ghost use Rattle.cycle.specs.Fold.{infusionPasses, stopping as stoppingOf, nextTime, earlier as earlierOf, stopOf};
+
+// Whether duration, amount and stop pass 17.
+pub fn infusion_passes(time: f64, amount: f64, duration: f64) -> bool
+    ensures { λ r. ⌜ r ≡ infusionPasses time amount duration ⌝ }
+{
+    let stop = time + duration;
+    binary64::is_positive(duration)
+        & (binary64::is_nonnegative(amount) & (binary64::is_finite(stop) & (time < stop)))
+}
+
+// A stopping reset on the target.
+fn stopping(target: usize, event: Event) -> bool
+    ensures { λ r. ⌜ r ≡ stoppingOf target event ⌝ }
+{
+    match event {
+        Event::Bolus {
+            time: _,
+            target: _,
+            amount: _,
+        } => false,
+        Event::Infusion {
+            time: _,
+            target: _,
+            amount: _,
+            duration: _,
+        } => false,
+        Event::Reset {
+            time: _,
+            target: j,
+            value: _,
+            order: _,
+            stops,
+        } => stops & (target == j),
+    }
+}
+
+// Whether there is one.
+pub fn has_stop(
+    target: usize,
+    reals: &[[f64; 3]; EVENTS],
+    words: &[[usize; 4]; EVENTS],
+    count: usize,
+) -> bool
+    requires { ⌜ count ≤ 192 ⌝ }
+    ensures { λ r. ⌜ r ≡ any (stoppingOf target) (packed (now (reals .entry)) (now (words .entry)) count) ⌝ }
+{
+    let mut found = false;
+    for k in 0..count {
+        found = found | stopping(target, events::event_at(reals, words, k));
+    }
+    found
+}
+
+// A reset's time if later than the infusion's, else plus a period.
+fn next_time(period: f64, time: f64, reset: f64) -> f64
+    ensures { λ r. ⌜ r ≡ nextTime period time reset ⌝ }
+{
+    if time < reset { reset } else { reset + period }
+}
+
+// The reset's next time if that is after the infusion's time and earlier than the stop so far.
+fn earlier(time: f64, next: f64, stop: f64) -> f64
+    ensures { λ r. ⌜ r ≡ earlierOf time next stop ⌝ }
+{
+    if (time < next) & (next < stop) {
+        next
+    } else {
+        stop
+    }
+}
+
+// The stop so far, or the event's next time if it is an earlier stopping reset.
+fn stopped_by(period: f64, time: f64, target: usize, stop: f64, event: Event) -> f64
+    ensures { λ r. ⌜ r ≡ cond (stoppingOf target event) (earlierOf time (nextTime period time (timeOf event)) stop) stop ⌝ }
+{
+    if stopping(target, event) {
+        return earlier(time, next_time(period, time, events::time_of(event)), stop);
+    }
+    stop
+}
+
+// The earliest of `until` and the next stopping resets on the target.
+pub fn stop_of(
+    period: f64,
+    time: f64,
+    target: usize,
+    until: f64,
+    reals: &[[f64; 3]; EVENTS],
+    words: &[[usize; 4]; EVENTS],
+    count: usize,
+) -> f64
+    requires { ⌜ count ≤ 192 ⌝ }
+    ensures { λ r. ⌜ r ≡ stopOf period time target until (packed (now (reals .entry)) (now (words .entry)) count) ⌝ }
+{
+    let mut stop = until;
+    for k in 0..count {
+        stop = stopped_by(
+            period,
+            time,
+            target,
+            stop,
+            events::event_at(reals, words, k),
+        );
+    }
+    stop
+}

@@ -1,0 +1,89 @@
+-- Demand 3's claim about a closed cycle whose lent slices have room, over every propagator with the laws of a kernel, every window, list, samples and tolerance. A claim, no proof.
+use mathlib.Core.Path.{_≡_}
+use Prim.Native.Nat.{ℕ, zero, suc, _<_}
+use mathlib.Core.Bool.{true}
+use mathlib.Core.List.{List, [], _∷_}
+use mathlib.Core.Logic.{_↔_}
+use lib.Dec.{T}
+use lib.ListN.{length, getD, replicate}
+use lib.Ieee.{Float, binary64, fits, le}
+use lib.Ieee.Scale.{finite}
+use Rattle.binary64.specs.Doubles.{plusZero, one, nonnegative, larger}
+use Rattle.binary64.specs.Lists.{all}
+use Rattle.matrix.specs.Matrix.{cell}
+use Rattle.refusal.specs.Result.{done}
+use Rattle.protocol.specs.declared.Event.{Event}
+use Rattle.protocol.specs.declared.Window.{Window}
+use Rattle.protocol.specs.Events.{time}
+use Rattle.protocol.specs.Execute.{Propagator, State, go, runOf}
+use Rattle.protocol.specs.PlainRun.{oneOf, KernelLaws, Reached}
+use Rattle.cycle.specs.declared.SteadyStateTolerance.{SteadyStateTolerance}
+use Rattle.cycle.specs.Elimination.{systemOf, solve}
+use Rattle.cycle.specs.Closed.{stopped, got, divided, ready, homogeneous, lastPost, unit, lastOf, candidateOf, scaleOf, scaledOf, residualsOf, Solved, closed}
+
+-- ---- what is given
+-- the times are doubles
+pub record TimesFit (w : Window) (es : List Event) : Type 0 where
+  pub start-fits : T (fits binary64 (w .start))
+  pub end-fits : T (fits binary64 (w .end))
+  pub times-fit : T (all (λ (e : Event). fits binary64 (time e)) es)
+
+-- ---- what is claimed
+-- the numbers of a refusal: neither 3 nor 4 is among them
+abbrev pub closedNumbers : List ℕ
+closedNumbers = 10 ∷ 11 ∷ 12 ∷ 13 ∷ 14 ∷ 15 ∷ 16 ∷ 17 ∷ 18 ∷ 19 ∷ 20 ∷ 21 ∷ 22 ∷ 30 ∷ 31 ∷ 32 ∷ 33 ∷ 34 ∷ 35 ∷ 36 ∷ []
+
+-- elimination yields the candidate c: neither 33 nor a refusal ahead of it comes up
+pub record Yields (advance : Propagator) (n : ℕ) (w : Window) (ss : List Float) (es : List Event) (tol : SteadyStateTolerance) (c : List Float) : Type 0 where
+  -- the list that was folded and prepared
+  pub folded : List Event
+  pub prepared : ready n w ss es tol ≡ got folded
+  -- the last post row of the run from zero
+  pub right : List Float
+  pub from-zero : lastOf advance n w folded (replicate n plusZero) ≡ got right
+  -- that of the run from each unit amount, with doses and resets zeroed
+  pub columns : List (List Float)
+  pub count : length columns ≡ n
+  pub from-units : (j : ℕ) → j < n → lastOf advance n w (homogeneous folded) (unit n j) ≡ got (getD columns j [])
+  pub solves : solve n (systemOf n columns right) ≡ done c
+
+-- when the candidate c of the folded list fs is accepted
+pub record Accepts (advance : Propagator) (n : ℕ) (w : Window) (tol : SteadyStateTolerance) (fs : List Event) (c : List Float) : Type 0 where
+  -- finite and at least 0
+  pub passes : T (all nonnegative c)
+  -- its own run reaches the end
+  pub left : State
+  pub reaches : runOf advance n (divided n w) [] fs c ≡ go left
+  -- of each state, where start is the candidate and end the last post row of that run: the scale is finite, the scaled residual at most 1
+  pub scales : (i : ℕ) → i < n → T (finite (scaleOf tol (cell c i) (cell (lastPost [] (left .rows)) i)))
+  pub residuals : (i : ℕ) → i < n → T (le (scaledOf tol (cell c i) (cell (lastPost [] (left .rows)) i)) one)
+
+-- the greatest of the first k scaled residuals, from +0
+unfoldable pub largestTo : SteadyStateTolerance → List Float → List Float → ℕ → Float
+largestTo tol a e zero = plusZero
+largestTo tol a e (suc k) = larger (largestTo tol a e k) (scaledOf tol (cell a k) (cell e k))
+
+-- the answer for the candidate c whose run ends with e
+pub record Answers (n : ℕ) (tol : SteadyStateTolerance) (c e : List Float) (s : Solved) : Type 0 where
+  pub amounts : s .amounts ≡ c
+  pub residuals : s .residuals ≡ residualsOf n c e
+  pub greatest : s .greatest ≡ largestTo tol c e n
+
+pub record ClosedCycle (advance : Propagator) (n : ℕ) (w : Window) (ss : List Float) (es : List Event) (tol : SteadyStateTolerance) : Type 0 where
+  pub numbers : (c : ℕ) (t : Float) → closed advance n w ss es tol true ≡ stopped c t → T (oneOf c closedNumbers)
+  -- the candidate is what elimination yields
+  pub yields : (c : List Float) → (candidateOf advance n w ss es tol ≡ got c) ↔ Yields advance n w ss es tol c
+  -- where there is one, some answer is given exactly when the candidate is accepted
+  pub accepts : (c : List Float) (y : Yields advance n w ss es tol c) → ((s : Solved) × (closed advance n w ss es tol true ≡ got s)) ↔ Accepts advance n w tol (y .folded) c
+  -- and the answer is the candidate, with the residuals of its own run
+  pub answer : (c : List Float) (y : Yields advance n w ss es tol c) (a : Accepts advance n w tol (y .folded) c) (s : Solved) → closed advance n w ss es tol true ≡ got s
+      → Answers n tol c (lastPost [] (a .left .rows)) s
+  -- no answer without a candidate; where there is none, the refusal ahead of it or 33 is the reply
+  pub needs : (s : Solved) → closed advance n w ss es tol true ≡ got s → Yields advance n w ss es tol (s .amounts)
+  pub refuses : (c : ℕ) (t : Float) → candidateOf advance n w ss es tol ≡ stopped c t → closed advance n w ss es tol true ≡ stopped c t
+  -- the run of an accepted candidate comes to the post row at the end, and that row holds the amounts it leaves
+  pub ends : (c : List Float) (y : Yields advance n w ss es tol c) (a : Accepts advance n w tol (y .folded) c)
+      → Reached n (divided n w) [] (y .folded) (a .left) × (lastPost [] (a .left .rows) ≡ a .left .amounts)
+
+abbrev pub EveryClosedCycle : Type 0
+EveryClosedCycle = (n : ℕ) (advance : Propagator) → KernelLaws n advance → (w : Window) (ss : List Float) (es : List Event) (tol : SteadyStateTolerance) → TimesFit w es → ClosedCycle advance n w ss es tol

@@ -1,0 +1,5 @@
+pub mod Pivots
+pub mod Tables
+pub mod Exchanges
+pub mod Substitutions
+pub mod Columns

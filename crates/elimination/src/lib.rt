@@ -1,0 +1,79 @@
+// Gaussian elimination with partial pivoting and back substitution, in arrays of which the leading n by n part is in use.
+mod pivot;
+mod right;
+mod substitution;
+mod table;
+
+use matrix::STATES;
+use refusal::Refusal;
+use refusal::Reply;
+use table::Cells;
+ghost use mathlib.Core.Path.{_≡_};
+ghost use mathlib.Core.List.{[]};
+ghost use Prim.Native.Nat.{_≤_, _<_};
+ghost use lib.ListN.{length, take};
+ghost use Rattle.matrix.specs.Matrix.{at as atOf, table as tableOf};
+ghost use Rattle.matrix.specs.Arrays.{lead};
+ghost use Rattle.refusal.specs.Numbers.{resultOf};
+ghost use Rattle.cycle.specs.Elimination.{swapped, systemCell, solve as solveOf};
+
+// The entry at row i, column j.
+fn at(a: &[[f64; STATES]; STATES], i: usize, j: usize) -> f64
+    requires { ⌜ (i < 4) × (j < 4) ⌝ }
+    ensures { λ r. ⌜ r ≡ atOf (now (a .entry)) i j ⌝ }
+{
+    a[i][j]
+}
+
+// Rows k and p exchanged. An array has as many rows as its type says.
+fn exchanged(a: [[f64; STATES]; STATES], k: usize, p: usize) -> [[f64; STATES]; STATES]
+    requires { ⌜ (k < 4) × (p < 4) ⌝ }
+    ensures { λ r. ⌜ (r ≡ swapped [] k p a) × (length a ≡ 4) ⌝ }
+{
+    let mut rows = a;
+    rows[k] = a[p];
+    rows[p] = a[k];
+    rows
+}
+
+// The system of a cycle: identity minus the columns, of which columns has one in each row.
+pub fn system(n: usize, columns: &[[f64; STATES]; STATES]) -> [[f64; STATES]; STATES]
+    requires { ⌜ n ≤ 4 ⌝ }
+    ensures { λ r. ⌜ lead n r ≡ tableOf n (systemCell (lead n (now (columns .entry)))) ⌝ }
+{
+    table::table(Cells::System, columns, n)
+}
+
+// The amounts, where the reply is done.
+pub struct Solution {
+    pub reply: Reply,
+    pub amounts: [f64; STATES],
+}
+
+// The amounts x of matrix·x = right, column by column and then from the last amount on.
+pub fn solve(n: usize, matrix: [[f64; STATES]; STATES], right: [f64; STATES]) -> Solution
+    requires { ⌜ n ≤ 4 ⌝ }
+    ensures { λ r. ⌜ resultOf (r .reply) (take n (r .amounts)) ≡ solveOf n (record { matrix = lead n matrix; right = take n right }) ⌝ }
+{
+    let least = pivot::least(&matrix, n);
+    let mut a = matrix;
+    let mut b = right;
+    for k in 0..n {
+        let p = pivot::row(&a, n, k);
+        if !pivot::passes(least, at(&a, p, k)) {
+            return Solution {
+                reply: Reply::Refused(Refusal::Pivot),
+                amounts: [0.0f64; STATES],
+            };
+        }
+        let rows = exchanged(a, k, p);
+        let side = right::reduced(&rows, right::exchanged(b, k, p), n, k);
+        let next = table::table(Cells::Reduced(k), &rows, n);
+        a = next;
+        b = side;
+    }
+    Solution {
+        reply: Reply::Done,
+        amounts: substitution::solved(&a, b, n),
+    }
+}

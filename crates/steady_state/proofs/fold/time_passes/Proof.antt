@@ -1,0 +1,16 @@
+-- `steady_state::fold::time_passes` meets its contract.
+use mathlib.Core.Path.{_≡_, refl}
+use borrow.Author.Needs.{needs}
+use Rattle.cycle.specs.Fold.{timePasses}
+use Rattle.steady_state.proofs.fold.time_passes.Statement.{statement}
+use Rattle.steady_state.proofs.fold.time_passes.Tie as tie
+
+returns : tie.Need-returns
+unfolding timePasses
+returns c = rw (c .before .before .is-finite .ensures)
+
+pub time-passes-spec : {M : Type 1} → statement M
+time-passes-spec =
+    tie.close
+    (tie.spec
+    (λ c κs. search needs) returns)
