@@ -1,22 +1,32 @@
-//! Times `advance`, whole runs and sheets of the C interface beside the Rust's,
-//! or measures the stack that each C entry uses.
+//! Times `advance`, whole runs, cycles and sheets of the C interface beside the
+//! Rust's, or measures the stack that each C entry uses.
 //!
 //!     bench [N..]      a table of medians, for these numbers of states (default: 1 2 3 4)
 //!     bench --runs     tables of medians of whole runs
+//!     bench --cycles   tables of medians of folds and closed cycles
 //!     bench --sheets   tables of medians of sheets, in one process and as programs
 //!     bench --stack    the stack of each entry
+mod bench_cycles;
 mod bench_runs;
 mod bench_sheets;
+#[allow(dead_code)]
+mod closed;
+#[allow(dead_code)]
+mod cycle_entry;
 #[allow(dead_code)]
 mod draw;
 #[allow(dead_code)]
 mod entries;
+#[allow(dead_code)]
+mod fold;
 #[allow(dead_code)]
 mod rule;
 #[allow(dead_code)]
 mod run_draw;
 #[allow(dead_code)]
 mod run_entry;
+#[allow(dead_code)]
+mod rust_cycle;
 #[allow(dead_code)]
 mod rust_run;
 #[allow(dead_code)]
@@ -33,8 +43,15 @@ mod sheet_fixed;
 mod sheet_run;
 #[allow(dead_code)]
 mod slices;
+#[allow(dead_code)]
+mod steady_entry;
+#[allow(dead_code)]
+mod steady_fixed;
+#[allow(dead_code)]
+mod steady_run;
 
 use bench_runs::Simulate;
+use cycle_entry::{linear_pk_normalize_periodic_cycle, Normalize};
 use entries::*;
 use qspquest_modeling::linear_pk::LinearPk;
 use rule::Kernel;
@@ -42,6 +59,7 @@ use run_entry::linear_pk_simulate;
 use sheet_entry::{rig_run_sheet, RunSheet, MOST};
 use std::hint::black_box;
 use std::time::Instant;
+use steady_entry::{linear_pk_periodic_steady_state, rig_steady_sheet, SteadyState};
 
 /// Batches of each side for one line of the table.
 const BATCHES: usize = 501;
@@ -293,6 +311,53 @@ extern "C" fn no_simulate(
     0
 }
 
+extern "C" fn no_fold(
+    _: *const f64,
+    _: usize,
+    _: f64,
+    _: f64,
+    _: f64,
+    _: f64,
+    _: u64,
+    _: usize,
+    _: usize,
+    _: *const u64,
+    _: usize,
+    _: *const f64,
+    _: usize,
+    _: *mut u64,
+    _: usize,
+    _: *mut usize,
+) -> u64 {
+    0
+}
+
+extern "C" fn no_steady_state(
+    _: *const f64,
+    _: usize,
+    _: f64,
+    _: f64,
+    _: f64,
+    _: f64,
+    _: u64,
+    _: usize,
+    _: usize,
+    _: *const u64,
+    _: usize,
+    _: *const f64,
+    _: usize,
+    _: f64,
+    _: f64,
+    _: *mut f64,
+    _: usize,
+    _: *mut f64,
+    _: usize,
+    _: *mut f64,
+    _: *mut f64,
+) -> u64 {
+    0
+}
+
 extern "C" fn no_sheet(_: *const u8, _: usize, _: *mut u8, _: usize, _: *mut usize) -> u64 {
     0
 }
@@ -329,7 +394,8 @@ fn depth<F: Copy>(empty: F, entry: F, call: impl Fn(F)) -> usize {
 }
 
 /// Each entry on its longest path: 4 states, 60 halvings in `advance`, in a run
-/// 192 events and 256 samples as well, in a sheet 64 and 256.
+/// 192 events and 256 samples as well, in a sheet 64 and 256; in a cycle 64
+/// infusions that are three pieces each.
 fn stack() {
     // Rates of a few, so that 2^57 takes 60 halvings.
     let (volumes, exchange) = ([1.0, 2.0, 4.0], [1.0, 1.0]);
@@ -439,12 +505,53 @@ fn stack() {
         black_box(bench_sheets::call(entry, &sheet, &mut out.borrow_mut()));
     });
     println!("| rig_run_sheet | {bytes} |");
+    let cycle = bench_cycles::full(4);
+    let cells = std::cell::RefCell::new(bench_cycles::Cells::new());
+    let bytes = depth(
+        no_fold as Normalize,
+        linear_pk_normalize_periodic_cycle as Normalize,
+        |entry| {
+            let reply = bench_cycles::fold(entry, &cycle, &mut cells.borrow_mut());
+            assert_eq!(black_box(reply), 0);
+        },
+    );
+    println!("| linear_pk_normalize_periodic_cycle | {bytes} |");
+    let bytes = depth(
+        no_steady_state as SteadyState,
+        linear_pk_periodic_steady_state as SteadyState,
+        |entry| {
+            let reply = bench_cycles::close(entry, &cycle, &mut cells.borrow_mut());
+            assert_eq!(black_box(reply), 0);
+        },
+    );
+    println!("| linear_pk_periodic_steady_state | {bytes} |");
+    let sheets = steady_fixed::sheets();
+    let long = sheets
+        .iter()
+        .find(|sheet| sheet.name == LONG)
+        .expect("a sheet");
+    let bytes = depth(
+        no_sheet as RunSheet,
+        rig_steady_sheet as RunSheet,
+        |entry| {
+            let reply = bench_sheets::call(entry, &long.bytes, &mut out.borrow_mut());
+            assert!(black_box(reply).0 == 0);
+        },
+    );
+    println!("| rig_steady_sheet | {bytes} |");
 }
+
+/// The sheet of the longest closed cycle.
+const LONG: &str = "64 infusions for four states, a propagation word of 0";
 
 fn main() {
     let arguments: Vec<String> = std::env::args().skip(1).collect();
     if arguments == ["--runs"] {
         bench_runs::tables();
+        return;
+    }
+    if arguments == ["--cycles"] {
+        bench_cycles::tables();
         return;
     }
     if arguments == ["--sheets"] {
@@ -464,7 +571,7 @@ fn main() {
         .filter_map(|word| word.parse().ok())
         .collect();
     if sizes.len() != arguments.len() || sizes.iter().any(|n| !(1..=4).contains(n)) {
-        eprintln!("bench [N..] with N from 1 to 4, bench --runs, bench --sheets, or bench --stack");
+        eprintln!("bench [N..] with N from 1 to 4, bench --runs, --cycles, --sheets, or --stack");
         std::process::exit(2);
     }
     if sizes.is_empty() {

@@ -4,6 +4,7 @@
 mod entries;
 #[allow(dead_code)]
 mod rust_run;
+#[allow(dead_code)]
 mod sheet;
 mod sheet_run;
 

@@ -32,6 +32,8 @@ pub struct Sheet {
     pub volumes: Vec<f64>,
     pub exchange: Vec<f64>,
     pub budgets: Budgets,
+    pub absolute: f64,
+    pub relative: f64,
     pub amounts: Vec<f64>,
     pub protocol: Protocol,
 }
@@ -91,7 +93,9 @@ pub fn meaning(bodies: &Bodies) -> Option<Sheet> {
     if parts.len() != count + (count - 1) {
         return None;
     }
-    let [start, end, rtol, atol, propagations, events, outputs, _, _] = bodies.window[..] else {
+    let [start, end, rtol, atol, propagations, events, outputs, absolute, relative] =
+        bodies.window[..]
+    else {
         return None;
     };
     Some(Sheet {
@@ -108,6 +112,8 @@ pub fn meaning(bodies: &Bodies) -> Option<Sheet> {
             events: events as usize,
             output_values: outputs as usize,
         },
+        absolute: f64::from_bits(absolute),
+        relative: f64::from_bits(relative),
         amounts: doubles(&bodies.amounts),
         protocol: Protocol {
             start: f64::from_bits(start),

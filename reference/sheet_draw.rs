@@ -465,7 +465,7 @@ pub fn over_limit(random: &mut Random, bodies: &mut Bodies) {
     ample(bodies);
 }
 
-fn parameter(random: &mut Random, bodies: &mut Bodies) {
+pub fn parameter(random: &mut Random, bodies: &mut Bodies) {
     let count = bodies.model[COUNT] as usize;
     match random.below(4) {
         0 => bodies.model[CLEARANCE] = random.unfit().to_bits(),
@@ -485,7 +485,7 @@ fn parameter(random: &mut Random, bodies: &mut Bodies) {
     }
 }
 
-fn rate(random: &mut Random, bodies: &mut Bodies) {
+pub fn rate(random: &mut Random, bodies: &mut Bodies) {
     let count = bodies.model[COUNT] as usize;
     let (large, small) = (random.scaled(1000, 1023), random.scaled(-1074, -30));
     match random.below(3) {
@@ -667,7 +667,7 @@ pub fn wide(random: &mut Random, word: u64) -> u64 {
 // ---- sheets that are changed at random
 
 /// Up to three words of the bodies hold any pattern.
-fn patterns(random: &mut Random, bodies: &mut Bodies) {
+pub fn patterns(random: &mut Random, bodies: &mut Bodies) {
     for _ in 0..1 + random.below(3) {
         let body = [
             &mut bodies.model,
@@ -684,7 +684,7 @@ fn patterns(random: &mut Random, bodies: &mut Bodies) {
     }
 }
 
-fn changed(random: &mut Random, bodies: &Bodies) -> Vec<u8> {
+pub fn changed(random: &mut Random, bodies: &Bodies) -> Vec<u8> {
     let mut words = packed(bodies);
     for _ in 0..1 + random.below(3) {
         if words.is_empty() {

@@ -69,23 +69,42 @@ fn call(
 
 /// The first difference between what the entry does with a sheet and the
 /// printout: with outputs of the exact length, one byte shorter, longer, and
-/// now and then of other lengths.
+/// now and then of other lengths, up to that of the longest printout.
 pub fn difference(
     entry: RunSheet,
     random: &mut Random,
     bytes: &[u8],
     expected: &Printout,
+    most: usize,
 ) -> Option<String> {
     let exact = expected.text.len();
-    assert!(exact > 0 && exact <= MOST, "a printout of {exact} bytes");
+    assert!(exact > 0 && exact <= most, "a printout of {exact} bytes");
     let mut rooms = vec![exact, exact - 1, exact + 1 + random.below(40)];
     match random.below(16) {
         0 => rooms.push(0),
         1..=2 => rooms.push(random.below(exact)),
-        3 => rooms.push(MOST.max(exact)),
+        3 => rooms.push(most),
         _ => {}
     }
     rooms
         .into_iter()
         .find_map(|room| call(entry, random, bytes, expected, room))
+}
+
+/// A line of stored sheets: bytes, number, words, and the text with / for each
+/// line feed.
+pub fn line(bytes: &[u8], printout: &Printout) -> String {
+    let word = |part: &[u8]| {
+        let mut eight = [0; 8];
+        eight[..part.len()].copy_from_slice(part);
+        format!("{:x}", u64::from_le_bytes(eight))
+    };
+    let words: Vec<String> = bytes.chunks(8).map(word).collect();
+    format!(
+        "{:x};{:x};{};{}",
+        bytes.len(),
+        printout.number,
+        words.join(" "),
+        printout.text.replace('\n', "/")
+    )
 }

@@ -21,7 +21,7 @@ const ZERO: u64 = 0;
 const NEGATIVE_ZERO: u64 = 1 << 63;
 
 /// Clearance 0, volume 1, window 0 to 1, amount 3, tolerances 1, budgets 100.
-fn still() -> Bodies {
+pub fn still() -> Bodies {
     let one = 1.0_f64.to_bits();
     Bodies {
         model: vec![0, 0, 0, 1, one],
@@ -33,7 +33,7 @@ fn still() -> Bodies {
 }
 
 /// A depot and three compartments.
-fn whole() -> Bodies {
+pub fn whole() -> Bodies {
     let model = [4.2, 0.0, 0.9, 0.0, 12.0, 25.5, 7.25, 3.5, 1.75].map(f64::to_bits);
     let mut bodies = Bodies {
         model: model.to_vec(),
@@ -45,29 +45,29 @@ fn whole() -> Bodies {
 }
 
 impl Bodies {
-    fn with(mut self, change: impl FnOnce(&mut Bodies)) -> Bodies {
+    pub fn with(mut self, change: impl FnOnce(&mut Bodies)) -> Bodies {
         change(&mut self);
         self
     }
-    fn clearance(self, clearance: f64) -> Bodies {
+    pub fn clearance(self, clearance: f64) -> Bodies {
         self.with(|bodies| bodies.model[0] = clearance.to_bits())
     }
-    fn window(self, start: f64, end: f64) -> Bodies {
+    pub fn window(self, start: f64, end: f64) -> Bodies {
         self.with(|bodies| bodies.window[..2].copy_from_slice(&[start, end].map(f64::to_bits)))
     }
-    fn amounts(self, amounts: &[f64]) -> Bodies {
+    pub fn amounts(self, amounts: &[f64]) -> Bodies {
         self.with(|bodies| bodies.amounts = amounts.iter().map(|v| v.to_bits()).collect())
     }
-    fn samples(self, samples: &[f64]) -> Bodies {
+    pub fn samples(self, samples: &[f64]) -> Bodies {
         self.with(|bodies| bodies.samples = samples.iter().map(|v| v.to_bits()).collect())
     }
-    fn event(self, words: [u64; EVENT]) -> Bodies {
+    pub fn event(self, words: [u64; EVENT]) -> Bodies {
         self.with(|bodies| bodies.events.extend(words))
     }
-    fn bolus(self, time: f64, target: u64, amount: f64) -> Bodies {
+    pub fn bolus(self, time: f64, target: u64, amount: f64) -> Bodies {
         self.event([BOLUS, time.to_bits(), target, amount.to_bits(), 0, 0])
     }
-    fn infusion(self, time: f64, target: u64, amount: f64, duration: f64) -> Bodies {
+    pub fn infusion(self, time: f64, target: u64, amount: f64, duration: f64) -> Bodies {
         let duration = duration.to_bits();
         self.event([
             INFUSION,
@@ -78,15 +78,15 @@ impl Bodies {
             0,
         ])
     }
-    fn reset(self, time: f64, target: u64, value: f64, order: u64, stops: u64) -> Bodies {
+    pub fn reset(self, time: f64, target: u64, value: f64, order: u64, stops: u64) -> Bodies {
         self.event([RESET, time.to_bits(), target, value.to_bits(), order, stops])
     }
     /// A word of the window.
-    fn set(self, place: usize, word: u64) -> Bodies {
+    pub fn set(self, place: usize, word: u64) -> Bodies {
         self.with(|bodies| bodies.window[place] = word)
     }
     /// This many of the last event.
-    fn events(self, count: usize) -> Bodies {
+    pub fn events(self, count: usize) -> Bodies {
         self.with(|bodies| {
             let last = bodies.events[bodies.events.len() - EVENT..].to_vec();
             while bodies.events.len() < EVENT * count {
@@ -94,7 +94,7 @@ impl Bodies {
             }
         })
     }
-    fn gives(self, name: &'static str, number: u64) -> Fixed {
+    pub fn gives(self, name: &'static str, number: u64) -> Fixed {
         Fixed {
             name,
             bytes: bytes(&packed(&self)),
@@ -102,28 +102,28 @@ impl Bodies {
             text: None,
         }
     }
-    fn prints(self, name: &'static str, text: &'static str) -> Fixed {
+    pub fn prints(self, name: &'static str, text: &'static str) -> Fixed {
         Fixed {
             text: Some(text),
             ..self.gives(name, 0)
         }
     }
     /// Refused with this line.
-    fn refused(self, name: &'static str, number: u64, text: &'static str) -> Fixed {
+    pub fn refused(self, name: &'static str, number: u64, text: &'static str) -> Fixed {
         Fixed {
             text: Some(text),
             ..self.gives(name, number)
         }
     }
     /// With the words of the file changed: 40.
-    fn broken(self, name: &'static str, change: impl FnOnce(&mut Vec<u64>)) -> Fixed {
+    pub fn broken(self, name: &'static str, change: impl FnOnce(&mut Vec<u64>)) -> Fixed {
         let mut words = packed(&self);
         change(&mut words);
         raw(name, bytes(&words), 40)
     }
 }
 
-fn raw(name: &'static str, bytes: Vec<u8>, number: u64) -> Fixed {
+pub fn raw(name: &'static str, bytes: Vec<u8>, number: u64) -> Fixed {
     Fixed {
         name,
         bytes,
@@ -652,7 +652,7 @@ fn layouts() -> Vec<Fixed> {
 }
 
 /// The longest run: 64 infusions and 256 samples, no two times equal.
-fn full(bodies: Bodies, states: u64) -> Bodies {
+pub fn full(bodies: Bodies, states: u64) -> Bodies {
     let mut full = bodies
         .window(0.0, 1000.0)
         .set(4, 0)

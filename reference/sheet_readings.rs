@@ -919,7 +919,8 @@ pub fn entry(printout: fn(&[u8]) -> Printout) -> RunSheet {
     present
 }
 
-/// An entry whose text is right, and what it does with the lent cells.
+/// An entry whose text is that of the present reading, and what it does with the
+/// lent cells.
 macro_rules! faulty {
     ($name:ident, |$printout:ident, $lent:ident| $body:expr) => {
         unsafe extern "C" fn $name(
@@ -930,7 +931,7 @@ macro_rules! faulty {
             length: *mut usize,
         ) -> u64 {
             let $lent = lent(sheet, sheet_length, out, out_length, length);
-            let $printout = printout($lent.sheet);
+            let $printout = PRESENT.get()($lent.sheet);
             $body
         }
     };
@@ -1030,6 +1031,7 @@ faulty!(a_byte_past_the_end, |printout, lent| {
     reply
 });
 
+/// Wrong ways with the lent cells, over the present reading.
 pub const FAULTY: [(&str, RunSheet); 14] = [
     ("writes what fits", writes_what_fits),
     (

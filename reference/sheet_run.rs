@@ -49,7 +49,7 @@ pub fn run(kernel: &LinearPk, sheet: &Sheet) -> Result<Vec<Sample>, Refusal> {
     })
 }
 
-fn bits(x: f64) -> String {
+pub fn bits(x: f64) -> String {
     format!("{:016x}", x.to_bits())
 }
 

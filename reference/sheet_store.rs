@@ -1,6 +1,7 @@
 //! A list of sheets with their printouts over the Rust, for replay where the
 //! Rust is not at hand. README.md gives the layout of a line.
 use crate::draw::Random;
+use crate::sheet_entry::line;
 use crate::sheet_run::{printout, Printout};
 use crate::{sheet_draw, sheet_fixed, NUMBERS};
 use std::collections::BTreeSet;
@@ -10,23 +11,6 @@ const SHORT: usize = 8 * 60;
 const TEXT: usize = 1500;
 /// The most tries to draw a sheet of a wanted kind.
 const TRIES: usize = 1_000_000;
-
-/// Bytes, number, words, and the text with / for each line feed.
-fn line(bytes: &[u8], printout: &Printout) -> String {
-    let word = |part: &[u8]| {
-        let mut eight = [0; 8];
-        eight[..part.len()].copy_from_slice(part);
-        format!("{:x}", u64::from_le_bytes(eight))
-    };
-    let words: Vec<String> = bytes.chunks(8).map(word).collect();
-    format!(
-        "{:x};{:x};{};{}",
-        bytes.len(),
-        printout.number,
-        words.join(" "),
-        printout.text.replace('\n', "/")
-    )
-}
 
 /// What a drawn sheet adds: its number, its states, and how many rows it has.
 fn shape(printout: &Printout) -> (u64, usize, usize) {

@@ -13,6 +13,7 @@ mod run_draw;
 #[allow(dead_code)]
 mod run_entry;
 mod rust_run;
+#[allow(dead_code)]
 mod sheet;
 mod sheet_broken;
 mod sheet_draw;
@@ -27,7 +28,7 @@ mod slices;
 use draw::Random;
 use sheet_broken::BROKEN;
 use sheet_draw::{Drawn, Kind, NAMED, RECIPES};
-use sheet_entry::{difference, rig_run_sheet, RunSheet};
+use sheet_entry::{difference, rig_run_sheet, RunSheet, MOST};
 use sheet_fixed::Fixed;
 use sheet_readings::{FAULTY, READINGS};
 use sheet_run::{printout, Printout};
@@ -84,7 +85,7 @@ fn hexadecimal(bytes: &[u8]) -> String {
 
 /// Stops the program unless the entry does what it must with a sheet.
 fn compare(entry: RunSheet, random: &mut Random, place: &str, bytes: &[u8], expected: &Printout) {
-    let Some(text) = difference(entry, random, bytes, expected) else {
+    let Some(text) = difference(entry, random, bytes, expected, MOST) else {
         return;
     };
     println!("difference, {place}");
@@ -95,7 +96,7 @@ fn compare(entry: RunSheet, random: &mut Random, place: &str, bytes: &[u8], expe
         hexadecimal(bytes)
     );
     println!("  expected:\n{}", expected.text);
-    let mut out = vec![0; sheet_entry::MOST];
+    let mut out = vec![0; MOST];
     let mut length = 0;
     let number = unsafe {
         entry(
@@ -118,7 +119,7 @@ fn try_stand_ins(fixed: &[Fixed]) {
         let mut random = Random(0);
         fixed.iter().any(|sheet| {
             let right = printout(&sheet.bytes);
-            difference(entry, &mut random, &sheet.bytes, &right).is_some()
+            difference(entry, &mut random, &sheet.bytes, &right, MOST).is_some()
         })
     };
     assert!(!caught(sheet_readings::entry(printout)));
@@ -128,6 +129,7 @@ fn try_stand_ins(fixed: &[Fixed]) {
             missed.push(reading.name);
         }
     }
+    sheet_readings::entry(printout);
     let faulty = FAULTY.iter().filter(|(_, entry)| !caught(*entry));
     missed.extend(faulty.map(|(name, _)| name));
     if !missed.is_empty() {
