@@ -8,8 +8,8 @@ use native.Mathlib.Numerals.{add-one}
 use native.Mathlib.Omega.{arith}
 use borrow.Author.Tests.{le-leb, lt-leb}
 use lib.Dec.{leb, leb→le}
-use lib.ListN.{length, getD, take, drop, length-append, length-take, length-map, List·getD-map}
-use lib.Seq.{take-suc, take-all, sets, sets-eq}
+use lib.ListN.{length, getD, take, length-append, length-take, length-map, List·getD-map}
+use lib.Seq.{take-suc, take-all, sets-eq}
 use lib.Ieee.{Float}
 use Rattle.refusal.specs.Result.{Result, refused, done, andThen, unless, number, valueOr}
 use Rattle.refusal.specs.Numbers.{refusalNumber, resultOf}

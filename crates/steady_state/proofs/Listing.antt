@@ -23,7 +23,7 @@ use Rattle.protocol.specs.declared.Window.{Window}
 use Rattle.events.specs.Packed.{eventAt, packed}
 use Rattle.events.proofs.Packing.{packed-length, tabulate-take}
 use Rattle.cycle.specs.Fold.{mostCycleEvents, fold}
-use Rattle.steady_state.specs.Entry.{foldEntry, filled, eventIn, Answer, answerOf}
+use Rattle.steady_state.specs.Entry.{foldEntry, filled, eventIn, answerOf}
 use Rattle.steady_state.specs.declared.entry.Listed.{Listed}
 
 module _ (rs : List (List Float)) (ws : List (List ℕ)) (count i : ℕ) (d : Event) where

@@ -1,8 +1,7 @@
 -- `cycle_words::fold_words` meets its contract.
-use mathlib.Core.Path.{_≡_, refl}
 use borrow.Author.Needs.{needs}
 use native.Mathlib.Omega.{arith}
-use mathlib.Core.Path.{_≡_, refl, sym, _∙_}
+use mathlib.Core.Path.{sym, _∙_}
 use borrow.Author.Tests.{not-true, not-false}
 use lib.ListN.{length}
 use Rattle.cycle_words.proofs.Listings.{unfit, fold-refused, fold-short, fold-done, listed-count, count-room, refused-words, done-words}

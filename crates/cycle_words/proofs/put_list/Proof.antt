@@ -1,5 +1,4 @@
 -- `cycle_words::put_list` meets its contract. The invariant: the words of the first i events stand in front.
-use mathlib.Core.Path.{_≡_, refl}
 use borrow.Author.Needs.{needs}
 use native.Mathlib.Omega.{arith}
 use Prim.Native.Nat.{_≤_, _-_}

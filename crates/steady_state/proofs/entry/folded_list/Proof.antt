@@ -1,7 +1,5 @@
 -- `steady_state::entry::folded_list` meets its contract.
-use mathlib.Core.Path.{_≡_, refl}
 use borrow.Author.Needs.{needs}
-use native.Mathlib.Omega.{arith}
 use Rattle.steady_state.proofs.Listing.{packed-answer}
 use Rattle.steady_state.proofs.entry.folded_list.Statement.{statement}
 use Rattle.steady_state.proofs.entry.folded_list.Tie as tie
