@@ -16,7 +16,7 @@ pub struct Scaled {
 }
 
 // absolute + relative·max(|start|, |end|)
-fn scale(tolerance: SteadyStateTolerance, start: f64, end: f64) -> f64
+pub fn scale(tolerance: SteadyStateTolerance, start: f64, end: f64) -> f64
     ensures { λ r. ⌜ r ≡ scaleOf tolerance start end ⌝ }
 {
     tolerance.absolute
