@@ -7,7 +7,7 @@ use native.Mathlib.Omega.{arith}
 use lib.ListN.{length}
 use lib.Ieee.{Float, binary64, sub, div, rem, lt, le}
 use lib.Ieee.Scale.{finite}
-use Rattle.binary64.specs.Doubles.{plusZero, one, smaller, floorOf}
+use Rattle.binary64.specs.Doubles.{plusZero, one, floorOf}
 use Rattle.refusal.specs.Result.{Result, refused, done, unless}
 use Rattle.refusal.specs.Numbers.{refusalNumber}
 use Rattle.refusal.specs.declared.Refusal.{Refusal}

@@ -1,11 +1,11 @@
 -- Loops over the events of a packed list: what is left of the list gives the whole answer.
-use mathlib.Core.Path.{_≡_, refl, ap, sym, _∙_}
-use mathlib.Core.Bool.{Bool, true, false, cond, _||_, _&&_}
-use mathlib.Core.List.{List, [], _∷_}
+use mathlib.Core.Path.{_≡_, sym, _∙_}
+use mathlib.Core.Bool.{Bool, true, false, cond, _||_}
+use mathlib.Core.List.{List}
 use Prim.Native.Nat.{ℕ, _+_, _<_, _≤_}
 use lib.Ieee.{Float, binary64, sub, add, div}
 use Rattle.binary64.specs.Lists.{any}
-use Rattle.refusal.specs.Result.{Result, refused}
+use Rattle.refusal.specs.Result.{refused}
 use Rattle.protocol.specs.Events.{time}
 use Rattle.protocol.specs.declared.Event.{Event}
 use Rattle.protocol.specs.declared.Event.the-variants.{Infusion}

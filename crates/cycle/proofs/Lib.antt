@@ -8,3 +8,4 @@ pub mod Scales
 pub mod Residuals
 pub mod Theorems
 pub mod Bench
+pub mod Stays

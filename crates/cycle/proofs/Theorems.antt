@@ -52,7 +52,7 @@ unit-pass n j = amounts-pass n (unit n j) (length-set (replicate n plusZero) j o
 abbrev Sized : ℕ → List Float → Type 0
 Sized n c = length c ≡ n
 
-solve-sized : (n : ℕ) (s : System) (d : ℕ) → length (solveTo n s d) ≡ n
+pub solve-sized : (n : ℕ) (s : System) (d : ℕ) → length (solveTo n s d) ≡ n
 unfolding solveTo
 solve-sized n s zero = length-replicate n plusZero
 solve-sized n s (suc d) = length-set (solveTo n s d) (n - suc d) _ ∙ solve-sized n s d

@@ -1,1 +1,3 @@
 pub mod Demand3
+pub mod Simulate
+pub mod PeriodicSteadyState

@@ -13,9 +13,8 @@ use Rattle.binary64.specs.Lists.{all, amountsPass}
 use Rattle.refusal.specs.Result.{Result, andThen, unless}
 use Rattle.matrix.specs.Exponential.{Scheme}
 use Rattle.interval.specs.Interval.{states, entry, interval}
-pub use Rattle.mammillary.specs.Rates.{place}
-unfoldable pub use Rattle.mammillary.specs.Rates.{padded}
-use Rattle.mammillary.specs.Rates.{paddedRate}
+pub use Rattle.mammillary.specs.Rates.{place, centralRate, peripheralRate, paddedCell, paddedRate}
+unfoldable pub use Rattle.mammillary.specs.Rates.{diagonalTo, rateOf, padded}
 use Rattle.concentration.specs.Concentrations.{concentrations as concentrationsOf}
 use Rattle.linear_pk.specs.declared.kernel.Absorption.{Absorption}
 use Rattle.linear_pk.specs.declared.kernel.Absorption.the-variants.{Absent, FirstOrder}

@@ -15,10 +15,10 @@ use Rattle.printout.proofs.Lengths.{text-length}
 abbrev pub Printed : List ℕ → List ℕ → ℕ → List ℕ → Type 0
 Printed text old r new = (r ≡ printedLength text old) × (new ≡ printed text old)
 
-no-room : (text old : List ℕ) → length old < length text → Printed text old 0 old
+pub no-room : (text old : List ℕ) → length old < length text → Printed text old 0 old
 no-room text old h = (rw (lt-leb (length text) (length old) h), rw (lt-leb (length text) (length old) h))
 
-with-room : (text old : List ℕ) {r : ℕ} {new : List ℕ} → length text ≤ length old → Wrote text 0 old r new → Printed text old r new
+pub with-room : (text old : List ℕ) {r : ℕ} {new : List ℕ} → length text ≤ length old → Wrote text 0 old r new → Printed text old r new
 with-room text old h w = (
   rw (le-leb (length text) (length old) h) (w .place ∙ zero-add (length text)),
   rw (le-leb (length text) (length old) h) (w .cells ∙ sets-eq text old 0 (rw (zero-add (length text)) h) ∙ ap (λ (k : ℕ). text ++ drop k old) (zero-add (length text))),

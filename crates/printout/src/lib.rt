@@ -64,7 +64,7 @@ fn put_run(
 }
 
 // The text of a refusal.
-fn put_refused(out: &mut [u8], number: u64, time: f64) -> usize
+pub fn put_refused(out: &mut [u8], number: u64, time: f64) -> usize
     requires { ⌜ length (refusedText number time) ≤ length (now out) ⌝ }
     ensures { λ r. ⌜ Wrote (refusedText number time) 0 (now (out .entry)) r (now (out .exit)) ⌝ }
 {

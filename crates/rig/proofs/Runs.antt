@@ -62,14 +62,26 @@ time-fits kind at target amount last stops = on (eqb kind 0) (eqb kind 1)
     on false true = ofBits-fits binary64 at
     on false false = ofBits-fits binary64 at
 
+pub times-made : (es : List ℕ) → T (all (λ (e : Event). fits binary64 (time e)) (eventsOf es))
+unfolding eventsOf eventOf tabulate
+times-made es = all-made (λ (e : Event). fits binary64 (time e)) (eventOf es) (λ i. time-fits (wordAt es i 0) (wordAt es i 1) (wordAt es i 2) (wordAt es i 3) (wordAt es i 4) (wordAt es i 5)) 0 (eventCount es)
+
+pub start-made : (w : List ℕ) → T (fits binary64 (windowOf w .start))
+unfolding windowOf
+start-made w = ofBits-fits binary64 _
+
+pub end-made : (w : List ℕ) → T (fits binary64 (windowOf w .end))
+unfolding windowOf
+end-made w = ofBits-fits binary64 _
+
 -- a sheet's list that passes has what is claimed of plain runs
 prepared : (n : ℕ) (w ss es : List ℕ) → prepare n (windowOf w) (doublesOf ss) (eventsOf es) ≡ none → Prepared n (windowOf w) (doublesOf ss) (eventsOf es)
-unfolding windowOf eventsOf eventOf tabulate
+unfolding tabulate
 prepared n w ss es h = record {
-  start-fits = ofBits-fits binary64 _;
-  end-fits = ofBits-fits binary64 _;
+  start-fits = start-made w;
+  end-fits = end-made w;
   samples-fit = all-made (fits binary64) (λ (k : ℕ). doubleOf ss (0 + k)) (λ i. ofBits-fits binary64 _) 0 (length ss);
-  times-fit = all-made (λ (e : Event). fits binary64 (time e)) (eventOf es) (λ i. time-fits (wordAt es i 0) (wordAt es i 1) (wordAt es i 2) (wordAt es i 3) (wordAt es i 4) (wordAt es i 5)) 0 (eventCount es);
+  times-fit = times-made es;
   passes = h;
 }
 

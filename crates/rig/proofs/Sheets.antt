@@ -50,7 +50,7 @@ module _ (bs : List ℕ) (q : number (readSheet bs) ≡ 0) (p : Places) (e : p �
   passed : Passes bs
   passed = read-passes bs q
 
-  read-is : readSheet bs ≡ done (sheetOf ws)
+  pub read-is : readSheet bs ≡ done (sheetOf ws)
   read-is = reads bs (passed .head) (passed .bodies) (passed .limits)
 
   between : Located ws p
@@ -76,24 +76,24 @@ module _ (bs : List ℕ) (q : number (readSheet bs) ≡ 0) (p : Places) (e : p �
         events = (omega (arith, l .events .1), omega (arith, l .whole, w));
       }
 
-  module _ (model window amounts samples events : List ℕ) (m : wordsOf model ≡ take (p .window - p .model) (drop (p .model) ws)) (w : wordsOf window ≡ take (p .amounts - p .window) (drop (p .window) ws))
-      (a : wordsOf amounts ≡ take (p .samples - p .amounts) (drop (p .amounts) ws)) (s : wordsOf samples ≡ take (p .events - p .samples) (drop (p .samples) ws))
-      (v : wordsOf events ≡ take (p .end - p .events) (drop (p .events) ws)) where
-    model-is : wordsOf model ≡ body ws 0
-    model-is = m ∙ body-at ws (p .model) (p .window) 0 (between .model .0) (between .model .1)
+  -- the parts that are read
+  pub model-is : (part : List ℕ) → wordsOf part ≡ take (p .window - p .model) (drop (p .model) ws) → wordsOf part ≡ body ws 0
+  model-is part r = r ∙ body-at ws (p .model) (p .window) 0 (between .model .0) (between .model .1)
 
-    window-is : wordsOf window ≡ body ws 1
-    window-is = w ∙ body-at ws (p .window) (p .amounts) 1 (between .window .0) (between .window .1)
+  pub window-is : (part : List ℕ) → wordsOf part ≡ take (p .amounts - p .window) (drop (p .window) ws) → wordsOf part ≡ body ws 1
+  window-is part r = r ∙ body-at ws (p .window) (p .amounts) 1 (between .window .0) (between .window .1)
 
-    amounts-are : wordsOf amounts ≡ body ws 2
-    amounts-are = a ∙ body-at ws (p .amounts) (p .samples) 2 (between .amounts .0) (between .amounts .1)
+  pub amounts-are : (part : List ℕ) → wordsOf part ≡ take (p .samples - p .amounts) (drop (p .amounts) ws) → wordsOf part ≡ body ws 2
+  amounts-are part r = r ∙ body-at ws (p .amounts) (p .samples) 2 (between .amounts .0) (between .amounts .1)
 
-    samples-are : wordsOf samples ≡ body ws 3
-    samples-are = s ∙ body-at ws (p .samples) (p .events) 3 (between .samples .0) (between .samples .1)
+  pub samples-are : (part : List ℕ) → wordsOf part ≡ take (p .events - p .samples) (drop (p .samples) ws) → wordsOf part ≡ body ws 3
+  samples-are part r = r ∙ body-at ws (p .samples) (p .events) 3 (between .samples .0) (between .samples .1)
 
-    events-are : wordsOf events ≡ body ws 4
-    events-are = v ∙ body-at ws (p .events) (p .end) 4 (between .events .0) (between .events .1)
+  pub events-are : (part : List ℕ) → wordsOf part ≡ take (p .end - p .events) (drop (p .events) ws) → wordsOf part ≡ body ws 4
+  events-are part r = r ∙ body-at ws (p .events) (p .end) 4 (between .events .0) (between .events .1)
 
+  module _ (model window samples events : List ℕ) (m : wordsOf model ≡ take (p .window - p .model) (drop (p .model) ws)) (w : wordsOf window ≡ take (p .amounts - p .window) (drop (p .window) ws))
+      (s : wordsOf samples ≡ take (p .events - p .samples) (drop (p .samples) ws)) (v : wordsOf events ≡ take (p .end - p .events) (drop (p .events) ws)) where
     -- what their readers ask
     pub readable : (modelFits (wordsOf model) ≡ true) × (72 ≤ length window) × (length events / 8 / 6 ≤ 64) × (length samples / 8 ≤ 256)
     readable =
@@ -102,11 +102,12 @@ module _ (bs : List ℕ) (q : number (readSheet bs) ≡ 0) (p : Places) (e : p �
         let nine = eqb-true (length (body ws 1)) 9 (and-first (windowFits (body ws 1)) (eventsFit (body ws 4)) (and-second (modelFits (body ws 0)) (windowFits (body ws 1) && eventsFit (body ws 4)) f)) in
         let few = leb-true (eventCount (body ws 4)) 64 (and-first (leb (eventCount (body ws 4)) 64) (leb (length (body ws 3)) 256) l) in
         let some = leb-true (length (body ws 3)) 256 (and-second (leb (eventCount (body ws 4)) 64) (leb (length (body ws 3)) 256) l) in (
-          ap modelFits model-is ∙ and-first (modelFits (body ws 0)) (windowFits (body ws 1) && eventsFit (body ws 4)) f,
-          omega (arith, nine, sym (words-length window) ∙ ap length window-is),
-          omega (arith, few, sym (words-length events) ∙ ap length events-are),
-          omega (arith, some, sym (words-length samples) ∙ ap length samples-are),
+          ap modelFits (model-is model m) ∙ and-first (modelFits (body ws 0)) (windowFits (body ws 1) && eventsFit (body ws 4)) f,
+          omega (arith, nine, sym (words-length window) ∙ ap length (window-is window w)),
+          omega (arith, few, sym (words-length events) ∙ ap length (events-are events v)),
+          omega (arith, some, sym (words-length samples) ∙ ap length (samples-are samples s)),
         )
 
-    pub printout-is : printoutOf (done (record { model = wordsOf model; window = wordsOf window; amounts = wordsOf amounts; samples = wordsOf samples; events = wordsOf events })) ≡ printoutOfBytes bs
-    printout-is = rw (model-is, window-is, amounts-are, samples-are, events-are, read-is) refl
+    pub printout-is : (amounts : List ℕ) → wordsOf amounts ≡ take (p .samples - p .amounts) (drop (p .amounts) ws)
+        → printoutOf (done (record { model = wordsOf model; window = wordsOf window; amounts = wordsOf amounts; samples = wordsOf samples; events = wordsOf events })) ≡ printoutOfBytes bs
+    printout-is amounts a = rw (model-is model m, window-is window w, amounts-are amounts a, samples-are samples s, events-are events v, read-is) refl

@@ -76,7 +76,7 @@ fn ordered(events: &[u8]) -> f64
 }
 
 // A text has bytes: none of them stands for no room.
-fn reply_of(number: u64, length: usize) -> PrintReply
+pub fn reply_of(number: u64, length: usize) -> PrintReply
     ensures { λ r. ⌜ (r .number ≡ cond (eqb length 0) 4 number) × (r .length ≡ length) ⌝ }
 {
     if length == 0 {
@@ -86,7 +86,7 @@ fn reply_of(number: u64, length: usize) -> PrintReply
 }
 
 // A refusal ahead of the run.
-fn print_refusal(number: u64, out: &mut [u8]) -> PrintReply
+pub fn print_refusal(number: u64, out: &mut [u8]) -> PrintReply
     requires { ⌜ 0 < number ⌝ }
     ensures { λ r. ⌜ Prints (refusalOf number) (now (out .entry)) r (now (out .exit)) ⌝ }
 {

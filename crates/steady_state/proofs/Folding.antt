@@ -2,7 +2,6 @@
 use mathlib.Core.Path.{_≡_, refl, ap, sym, _∙_}
 use mathlib.Core.Bool.{Bool, true, false}
 use mathlib.Core.List.{List, [], _∷_, _++_}
-use mathlib.Core.Option.{Option, some, none}
 use Prim.Native.Nat.{ℕ, suc, _+_, _*_, _≤_, _<_}
 use native.Mathlib.Omega.{arith}
 use borrow.Author.Tests.{lt-leb, le-leb}
@@ -19,7 +18,7 @@ use Rattle.protocol.specs.First as F
 use Rattle.protocol.specs.Events.{time}
 use Rattle.protocol.specs.Prepare.{windowPasses, within, eventsPass}
 use Rattle.protocol.specs.declared.Event.{Event}
-use Rattle.protocol.specs.declared.Event.the-variants.{Bolus, Infusion, Reset}
+use Rattle.protocol.specs.declared.Event.the-variants.{Bolus, Reset}
 use Rattle.protocol.specs.declared.Window.{Window}
 use Rattle.matrix.specs.Matrix.{tabulate, tabulateFrom}
 use Rattle.preparation.specs.Preparation.{validateOf, numberOf}

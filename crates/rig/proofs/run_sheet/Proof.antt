@@ -50,14 +50,14 @@ print-sheet-requires : tie.Need-print-sheet-requires
 print-sheet-requires c κs =
     let r = c .before .before .before .before .before .before .before .before .read-sheet in
     let q : number (readSheet (c .before .before .before .before .before .before .before .before .before .before .before .args .bytes .now)) ≡ 0 = sym (r .ensures .0) ∙ omega (arith, c .before .before .before .before .before .before .before .if1 .left) in
-    readable (c .before .before .before .before .before .before .before .before .before .before .before .args .bytes .now) q (r .result .places) (r .ensures .1) (c .before .before .before .before .before .body .result .now) (c .before .before .before .before .body2 .result .now) (c .before .before .before .body3 .result .now) (c .before .before .body4 .result .now) (c .before .body5 .result .now)
-    (c .before .before .before .before .before .body .ensures) (c .before .before .before .before .body2 .ensures) (c .before .before .before .body3 .ensures) (c .before .before .body4 .ensures) (c .before .body5 .ensures)
+    readable (c .before .before .before .before .before .before .before .before .before .before .before .args .bytes .now) q (r .result .places) (r .ensures .1) (c .before .before .before .before .before .body .result .now) (c .before .before .before .before .body2 .result .now) (c .before .before .body4 .result .now) (c .before .body5 .result .now)
+    (c .before .before .before .before .before .body .ensures) (c .before .before .before .before .body2 .ensures) (c .before .before .body4 .ensures) (c .before .body5 .ensures)
 
 returns-2 : tie.Need-returns-2
 returns-2 c =
     let r = c .before .before .before .before .before .before .before .before .before .before .before .read-sheet in
     let q : number (readSheet (c .before .before .before .before .before .before .before .before .before .before .before .before .before .before .args .bytes .now)) ≡ 0 = sym (r .ensures .0) ∙ omega (arith, c .before .before .before .before .before .before .before .before .before .before .if1 .left) in
-    let e = printout-is (c .before .before .before .before .before .before .before .before .before .before .before .before .before .before .args .bytes .now) q (r .result .places) (r .ensures .1) (c .before .before .before .before .before .before .before .before .body .result .now) (c .before .before .before .before .before .before .before .body2 .result .now) (c .before .before .before .before .before .before .body3 .result .now) (c .before .before .before .before .before .body4 .result .now) (c .before .before .before .before .body5 .result .now) (c .before .before .before .before .before .before .before .before .body .ensures) (c .before .before .before .before .before .before .before .body2 .ensures) (c .before .before .before .before .before .before .body3 .ensures) (c .before .before .before .before .before .body4 .ensures) (c .before .before .before .before .body5 .ensures) in
+    let e = printout-is (c .before .before .before .before .before .before .before .before .before .before .before .before .before .before .args .bytes .now) q (r .result .places) (r .ensures .1) (c .before .before .before .before .before .before .before .before .body .result .now) (c .before .before .before .before .before .before .before .body2 .result .now) (c .before .before .before .before .before .body4 .result .now) (c .before .before .before .before .body5 .result .now) (c .before .before .before .before .before .before .before .before .body .ensures) (c .before .before .before .before .before .before .before .body2 .ensures) (c .before .before .before .before .before .body4 .ensures) (c .before .before .before .before .body5 .ensures) (c .before .before .before .before .before .before .body3 .result .now) (c .before .before .before .before .before .before .body3 .ensures) in
     let p = prints-same e (c .before .before .print-sheet .ensures) in
     (p .number, (p .length, p .cells))
 

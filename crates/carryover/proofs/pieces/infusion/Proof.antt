@@ -1,7 +1,5 @@
 -- `carryover::pieces::infusion` meets its contract.
-use mathlib.Core.Path.{_≡_, refl}
 use borrow.Author.Needs.{needs}
-use native.Mathlib.Omega.{arith}
 use borrow.Author.Tests.{not-true, not-false}
 use Rattle.refusal.specs.declared.Refusal.the-variants as R
 use Rattle.carryover.proofs.Appending.{replies-refused, replies-same}

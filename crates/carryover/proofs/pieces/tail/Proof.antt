@@ -1,5 +1,4 @@
 -- `carryover::pieces::tail` meets its contract.
-use mathlib.Core.Path.{_≡_, refl}
 use borrow.Author.Needs.{needs}
 use native.Mathlib.Omega.{arith}
 use lib.Ieee.{ofBits}

@@ -1,7 +1,4 @@
 -- `carryover::stop::earlier` meets its contract.
-use mathlib.Core.Path.{_≡_, refl}
-use borrow.Author.Needs.{needs}
-use native.Mathlib.Omega.{arith}
 use Rattle.carryover.proofs.stop.earlier.Statement.{statement}
 use Rattle.carryover.proofs.stop.earlier.Tie as tie
 

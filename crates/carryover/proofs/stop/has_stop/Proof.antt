@@ -1,5 +1,5 @@
 -- `carryover::stop::has_stop` meets its contract. The invariant: what is left to look at gives the whole answer.
-use mathlib.Core.Path.{_≡_, refl}
+use mathlib.Core.Path.{_≡_}
 use borrow.Author.Needs.{needs}
 use native.Mathlib.Omega.{arith}
 use Prim.Native.Nat.{_≤_, _-_}

@@ -1,7 +1,5 @@
 -- `carryover::stop::infusion_passes` meets its contract.
-use mathlib.Core.Path.{_≡_, refl}
 use borrow.Author.Needs.{needs}
-use native.Mathlib.Omega.{arith}
 use Rattle.cycle.specs.Fold.{infusionPasses}
 use Rattle.carryover.proofs.stop.infusion_passes.Statement.{statement}
 use Rattle.carryover.proofs.stop.infusion_passes.Tie as tie

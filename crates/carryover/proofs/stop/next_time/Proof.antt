@@ -1,7 +1,4 @@
 -- `carryover::stop::next_time` meets its contract.
-use mathlib.Core.Path.{_≡_, refl}
-use borrow.Author.Needs.{needs}
-use native.Mathlib.Omega.{arith}
 use Rattle.carryover.proofs.stop.next_time.Statement.{statement}
 use Rattle.carryover.proofs.stop.next_time.Tie as tie
 

@@ -1,5 +1,5 @@
 -- `carryover::stop::stop_of` meets its contract. The invariant: what the events that are left make of the stop is the whole answer.
-use mathlib.Core.Path.{_≡_, refl}
+use mathlib.Core.Path.{_≡_}
 use borrow.Author.Needs.{needs}
 use native.Mathlib.Omega.{arith}
 use Prim.Native.Nat.{_≤_, _-_}

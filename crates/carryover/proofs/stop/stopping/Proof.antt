@@ -1,7 +1,5 @@
 -- `carryover::stop::stopping` meets its contract.
-use mathlib.Core.Path.{_≡_, refl}
 use borrow.Author.Needs.{needs}
-use native.Mathlib.Omega.{arith}
 use Rattle.cycle.specs.Fold.{stopping}
 use Rattle.carryover.proofs.stop.stopping.Statement.{statement}
 use Rattle.carryover.proofs.stop.stopping.Tie as tie

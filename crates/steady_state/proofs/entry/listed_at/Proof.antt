@@ -1,7 +1,5 @@
 -- `steady_state::entry::listed_at` meets its contract.
-use mathlib.Core.Path.{_≡_, refl}
 use borrow.Author.Needs.{needs}
-use native.Mathlib.Omega.{arith}
 use Rattle.steady_state.proofs.Listing.{listed-in, listed-past}
 use Rattle.steady_state.proofs.entry.listed_at.Statement.{statement}
 use Rattle.steady_state.proofs.entry.listed_at.Tie as tie

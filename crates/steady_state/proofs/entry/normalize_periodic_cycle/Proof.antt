@@ -1,7 +1,5 @@
 -- `steady_state::entry::normalize_periodic_cycle` meets its contract.
-use mathlib.Core.Path.{_≡_, refl}
 use borrow.Author.Needs.{needs}
-use native.Mathlib.Omega.{arith}
 use borrow.Author.Tests.{lt-leb, le-leb}
 use Rattle.steady_state.proofs.Listing.{over-count, over-samples, kernel-refused, entry-folds}
 use Rattle.steady_state.proofs.entry.normalize_periodic_cycle.Statement.{statement}

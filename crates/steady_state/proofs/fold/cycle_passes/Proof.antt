@@ -1,5 +1,4 @@
 -- `steady_state::fold::cycle_passes` meets its contract.
-use mathlib.Core.Path.{_≡_, refl}
 use borrow.Author.Needs.{needs}
 use Rattle.cycle.specs.Fold.{cyclePasses}
 use Rattle.steady_state.proofs.fold.cycle_passes.Statement.{statement}

@@ -1,5 +1,4 @@
 -- `steady_state::fold::pieces` meets its contract.
-use mathlib.Core.Path.{_≡_, refl}
 use borrow.Author.Needs.{needs}
 use Rattle.carryover.proofs.Appending.{replies-same}
 use Rattle.steady_state.proofs.Folding.{bolus-copied, reset-copied}

@@ -1,5 +1,4 @@
 -- `steady_state::fold::time_passes` meets its contract.
-use mathlib.Core.Path.{_≡_, refl}
 use borrow.Author.Needs.{needs}
 use Rattle.cycle.specs.Fold.{timePasses}
 use Rattle.steady_state.proofs.fold.time_passes.Statement.{statement}

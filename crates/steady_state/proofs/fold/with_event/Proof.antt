@@ -1,11 +1,9 @@
 -- `steady_state::fold::with_event` meets its contract.
-use mathlib.Core.Path.{_≡_, refl}
+use mathlib.Core.Path.{refl}
 use borrow.Author.Needs.{needs}
 use borrow.Author.Tests.{not-true, not-false}
 use Rattle.refusal.specs.declared.Refusal.the-variants as R
 use Rattle.steady_state.proofs.Folding.{event-outside, event-refused, event-over, event-done}
-use mathlib.Core.Path.{_≡_, refl, _∙_, ap}
-use Rattle.cycle.specs.Fold.{timePasses}
 use Rattle.steady_state.proofs.fold.with_event.Statement.{statement}
 use Rattle.steady_state.proofs.fold.with_event.Tie as tie
 

@@ -1,5 +1,5 @@
 -- `steady_state::fold::with_events` meets its contract.
-use mathlib.Core.Path.{_≡_, refl}
+use mathlib.Core.Path.{refl}
 use borrow.Author.Needs.{needs}
 use native.Mathlib.Omega.{arith}
 use Rattle.steady_state.proofs.Folding.{Going, going-start, going-refused, going-more, going-done, folds-refused, folds-done}

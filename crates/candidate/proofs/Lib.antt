@@ -1,0 +1,2 @@
+-- The laws of the candidate.
+pub mod Chain

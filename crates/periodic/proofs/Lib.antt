@@ -1,0 +1,2 @@
+-- The laws of the closed cycle's chain.
+pub mod Answered

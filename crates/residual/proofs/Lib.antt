@@ -1,0 +1,2 @@
+-- The laws of the residuals.
+pub mod States

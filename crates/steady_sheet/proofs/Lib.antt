@@ -1,0 +1,5 @@
+pub mod Kernels
+pub mod Kept
+pub mod Entry
+pub mod Sheets
+pub mod Most

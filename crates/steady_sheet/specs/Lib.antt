@@ -1,0 +1,2 @@
+pub mod SteadySheet
+pub mod Told
