@@ -3,9 +3,12 @@
  * optional depot, its kernel, runs over lists of doses and resets, the steady
  * state of a repeated cycle, and the printouts of a sheet.
  *
- * Build the archive with `rt staticlib capi` and link target/staticlib/libcapi.a.
- * It needs no heap and no other library; rig_run_sheet takes 57 KiB of stack,
- * linear_pk_simulate 34 KiB, every other function 4 KiB at most.
+ * Build the archive with `rt staticlib capi` and link target/staticlib/libcapi.a
+ * and the mathematical library (-lm).
+ * It needs no heap, and of other libraries the C library's fmod alone. Of stack
+ * rig_steady_sheet and linear_pk_periodic_steady_state take 78 KiB, rig_run_sheet
+ * 57 KiB, linear_pk_normalize_periodic_cycle 39 KiB, linear_pk_simulate 34 KiB,
+ * every other function 4 KiB at most.
  *
  * States are the depot (if there is one), central, then the peripherals:
  * n is 1 to 4. Amounts, volumes and times are in one coherent set of units.
