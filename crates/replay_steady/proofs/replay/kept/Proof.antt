@@ -1,0 +1,18 @@
+-- `replay_steady::replay::kept` is safe and ends.
+use Prim.Native.Nat.{_≤_, _-_}
+use borrow.Author.Needs.{needs}
+use Rattle.replay_steady.proofs.replay.kept.Statement.{statement}
+use Rattle.replay_steady.proofs.replay.kept.Tie as tie
+
+abbrev Inv-loop : tie.InvT-loop
+Inv-loop out from ok₀ i₀ ok i = from ≤ i
+
+abbrev μ-loop : tie.MeasureT-loop
+μ-loop out from ok₀ i₀ ok i = 2048 - i
+
+pub kept-spec : {M : Type 1} → statement M
+kept-spec =
+    tie.close
+    (tie.spec
+    Inv-loop μ-loop (λ c. search needs) (λ c. search needs) (λ c. search needs) (λ c. search needs) (λ c. search needs)
+    (λ c. search needs))

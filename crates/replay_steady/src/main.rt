@@ -1,0 +1,28 @@
+// Replays stored sheets of closed cycles against the library. Standard input has a line for each sheet, in the layout of reference/README.md, with the printout
+// over the reference; a line that starts with '#' is a comment. Prints how often each number was given, and how many printouts differ.
+mod line;
+mod replay;
+
+use stored_answers::Tally;
+
+// What the lines of a text came to.
+fn replayed(text: &[u8]) -> Tally {
+    let mut tally = Tally::new();
+    let mut at = 0usize;
+    while at < text.len() {
+        let end = stored_answers::end(text, at, b'\n');
+        let outcome = replay::replay(&text[at..end]);
+        let next = tally.added(outcome);
+        tally = next;
+        at = end + 1;
+    }
+    tally
+}
+
+fn main() {
+    let mut input = stored_answers::room();
+    let n = io::read_full(0, &mut input);
+    let tally = replayed(&input[..n]);
+    tally.print_entry(0, b"steady_sheet");
+    tally.print_total();
+}
