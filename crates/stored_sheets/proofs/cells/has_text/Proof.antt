@@ -1,9 +1,9 @@
--- `replay_sheets::replay::has_text` is safe and ends.
+-- `stored_sheets::cells::has_text` is safe and ends.
 use Prim.Native.Nat.{_≤_, _-_}
 use lib.ListN.{length}
 use borrow.Author.Needs.{needs}
-use Rattle.replay_sheets.proofs.replay.has_text.Statement.{statement}
-use Rattle.replay_sheets.proofs.replay.has_text.Tie as tie
+use Rattle.stored_sheets.proofs.cells.has_text.Statement.{statement}
+use Rattle.stored_sheets.proofs.cells.has_text.Tie as tie
 
 abbrev Inv-loop : tie.InvT-loop
 Inv-loop out text ok₀ i₀ ok i = i ≤ length text

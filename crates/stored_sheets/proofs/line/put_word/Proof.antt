@@ -1,8 +1,8 @@
--- `replay_steady::line::put_word` is safe and ends.
+-- `stored_sheets::line::put_word` is safe and ends.
 use Prim.Native.Nat.{_≤_, _-_}
 use borrow.Author.Needs.{needs}
-use Rattle.replay_steady.proofs.line.put_word.Statement.{statement}
-use Rattle.replay_steady.proofs.line.put_word.Tie as tie
+use Rattle.stored_sheets.proofs.line.put_word.Statement.{statement}
+use Rattle.stored_sheets.proofs.line.put_word.Tie as tie
 
 abbrev Inv-loop : tie.InvT-loop
 Inv-loop sheet₀ at word left₀ i₀ sheet left i = i ≤ 8

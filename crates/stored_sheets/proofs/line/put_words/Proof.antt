@@ -1,9 +1,9 @@
--- `replay_steady::line::put_words` is safe and ends.
+-- `stored_sheets::line::put_words` is safe and ends.
 use Prim.Native.Nat.{_≤_, _-_}
 use borrow.Author.Needs.{needs}
 use lib.ListN.{length}
-use Rattle.replay_steady.proofs.line.put_words.Statement.{statement}
-use Rattle.replay_steady.proofs.line.put_words.Tie as tie
+use Rattle.stored_sheets.proofs.line.put_words.Statement.{statement}
+use Rattle.stored_sheets.proofs.line.put_words.Tie as tie
 
 abbrev Inv-loop : tie.InvT-loop
 Inv-loop part sheet₀ at₀ count₀ sheet at count = (at ≤ length part) × (count ≤ 8193)

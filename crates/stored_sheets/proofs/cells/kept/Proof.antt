@@ -1,8 +1,8 @@
--- `replay_steady::replay::kept` is safe and ends.
+-- `stored_sheets::cells::kept` is safe and ends.
 use Prim.Native.Nat.{_≤_, _-_}
 use borrow.Author.Needs.{needs}
-use Rattle.replay_steady.proofs.replay.kept.Statement.{statement}
-use Rattle.replay_steady.proofs.replay.kept.Tie as tie
+use Rattle.stored_sheets.proofs.cells.kept.Statement.{statement}
+use Rattle.stored_sheets.proofs.cells.kept.Tie as tie
 
 abbrev Inv-loop : tie.InvT-loop
 Inv-loop out from ok₀ i₀ ok i = from ≤ i
