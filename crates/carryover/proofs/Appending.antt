@@ -66,13 +66,6 @@ module _ (rs : List (List Float)) (ws : List (List ℕ)) (at : ℕ) where
   replies-same h e = record { reals = h .reals; words = h .words; held = h .held ∙ sym (ap (behind (packed rs ws at)) e); room = h .room }
 
 -- ---- the pieces of an infusion
-module _ (w : Window) (i : ℕ) (r l : Float) where
-  pub tail-some : lt plusZero l ≡ true → tail w i r l ≡ piece (w .start) i r l ∷ []
-  tail-some h = rw h
-
-  pub tail-none : lt plusZero l ≡ false → tail w i r l ≡ []
-  tail-none h = rw h
-
 module _ (w : Window) (t : Float) (i : ℕ) (r left : Float) where
   pub parts-none : lt plusZero left ≡ false → parts w t i r left ≡ []
   unfolding parts

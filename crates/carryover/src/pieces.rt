@@ -9,9 +9,12 @@ ghost use mathlib.Core.Path.{_≡_};
 ghost use mathlib.Core.List.{[], _∷_};
 ghost use Prim.Native.Nat.{_≤_, _+_};
 ghost use lib.ListN.{length};
+ghost use lib.Ieee.{lt};
+ghost use Rattle.binary64.specs.Doubles.{plusZero};
+ghost use Rattle.binary64.specs.Lists.{pick};
 ghost use Rattle.events.specs.Packed.{packed};
 ghost use Rattle.protocol.specs.declared.Event.the-variants.{Infusion};
-ghost use Rattle.cycle.specs.Fold.{piece, whole, tail as tailOf, parts as partsOf, wholes as wholesOf, lasting as lastingOf, pieces};
+ghost use Rattle.cycle.specs.Fold.{piece, parts as partsOf, wholes as wholesOf, lasting as lastingOf, pieces};
 ghost use Rattle.carryover.specs.Appended.{Appends, Replies};
 
 // The reply, and how many places the list takes; 0 at a refusal.
@@ -52,9 +55,9 @@ fn push_piece(
     at + 1
 }
 
-// What the head leaves, from the start, if above 0.
+// What the head leaves, at the start of the cycle, if above 0.
 fn tail(
-    window: Window,
+    start: f64,
     target: usize,
     rate: f64,
     duration: f64,
@@ -63,10 +66,10 @@ fn tail(
     at: usize,
 ) -> usize
     requires { ⌜ (at + 1 ≤ 192) × (length (now reals) ≡ 192) × (length (now words) ≡ 192) ⌝ }
-    ensures { λ r. ⌜ Appends (now (reals .entry)) (now (words .entry)) at (now (reals .exit)) (now (words .exit)) r 1 (tailOf window target rate duration) ⌝ }
+    ensures { λ r. ⌜ Appends (now (reals .entry)) (now (words .entry)) at (now (reals .exit)) (now (words .exit)) r 1 (pick (lt plusZero duration) (piece start target rate duration) []) ⌝ }
 {
     if 0.0 < duration {
-        return push_piece(window.start, target, rate, duration, reals, words, at);
+        return push_piece(start, target, rate, duration, reals, words, at);
     }
     at
 }
@@ -88,7 +91,7 @@ fn parts(
     if 0.0 < left {
         let head = binary64::min(left, window.end - time);
         let next = push_piece(time, target, rate, head, reals, words, at);
-        return tail(window, target, rate, left - head, reals, words, next);
+        return tail(window.start, target, rate, left - head, reals, words, next);
     }
     at
 }
@@ -152,7 +155,8 @@ fn lasting(
             count: parts(window, time, target, rate, left, reals, words, at),
         };
     }
-    let periods = binary64::floor(left / (window.end - window.start));
+    let period = window.end - window.start;
+    let periods = binary64::floor(left / period);
     if !binary64::is_finite(periods) {
         return refused(Refusal::Overlap);
     }
