@@ -2,6 +2,7 @@
 mod cycles;
 mod run;
 mod sheets;
+mod steady_sheets;
 
 ghost use mathlib.Core.Path.{_≡_};
 ghost use lib.ListN.{length};
