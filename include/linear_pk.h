@@ -1,7 +1,7 @@
 /*
  * A linear patient: mammillary kinetics with one to three compartments and an
- * optional depot, its kernel, runs over lists of doses and resets, and the
- * printout of a sheet.
+ * optional depot, its kernel, runs over lists of doses and resets, the steady
+ * state of a repeated cycle, and the printouts of a sheet.
  *
  * Build the archive with `rt staticlib capi` and link target/staticlib/libcapi.a.
  * It needs no heap and no other library; rig_run_sheet takes 57 KiB of stack,
@@ -19,12 +19,18 @@
  *    2  a rate that is not finite
  *    3  a wrong count, or a value that is not finite or below 0
  *    4  an output slice that is too short
- *    5  more than 192 events or 256 samples
+ *    5  more than 192 events (64 in a cycle or a sheet) or 256 samples
  *   10  a window: ends not finite or not increasing, rtol or atol not finite or not above 0
  *   11  a sample not finite or outside the window
  *   12  an event: see linear_pk_simulate
  *   13  more events than their budget
  *   14  more values than their budget
+ *   15  a cycle: ends not finite, or its period not finite or not above 0
+ *   16  an event of a cycle: its time not finite, before the start, or not before the end
+ *   17  an infusion of a cycle: duration not finite or not above 0, amount not finite
+ *       or below 0, or its stop not finite or not after its time
+ *   18  the periods that an infusion lasts are not finite
+ *   19  absolute not finite or not above 0, relative not finite or below 0
  *   20  the norm of the interval's matrix is not finite
  *   21  more than 60 halvings
  *   22  exponential, rate*duration or amount not finite, or an amount below 0
@@ -32,6 +38,10 @@
  *   30  one advance beyond the budget of propagations
  *   31  a state that is not finite or below 0
  *   32  summed rates that are not finite
+ *   33  a pivot that is not finite or too small: no single steady state
+ *   34  a solution that is not finite or below 0
+ *   35  the scale of a residual is not finite
+ *   36  a scaled residual that is not finite or above 1
  *   40  words that are no events, or bytes that are no sheet
  * Where several hold, the first in the order that each function lists is given.
  * A refusal leaves every slice as it was, but for a run that stopped once begun,
@@ -133,6 +143,53 @@ uint64_t linear_pk_simulate(const double *kernel, size_t kernel_len,
                             double *values, size_t values_len,
                             double *time, size_t *rows, uint64_t *advances);
 
+/* A cycle's events folded into one period, [start, end), which repeats: an
+ * infusion that lasts past the end goes on from the start, and one that lasts
+ * whole periods gives as many times the rate over all of it. An infusion becomes
+ * at most three events, any other stays as it is, so that 192 are the most.
+ *
+ * The window, the budgets, the events' words and the samples are those of
+ * linear_pk_simulate; of the budgets event_budget alone matters. At most 64
+ * events.
+ *
+ * Replies 0, or the first number that holds of 40, 5, 1, 2, 15, 13, then event by
+ * event 16, 17, 18, 13, then 10, 11, 12 on the folded list, and last 4: folded
+ * has fewer than 6 * *count cells. On 0 the first 6 * *count cells of folded are
+ * the events' words, those that a kind lacks 0. At a refusal folded stays as it
+ * was and *count is 0. */
+uint64_t linear_pk_normalize_periodic_cycle(const double *kernel, size_t kernel_len,
+                                            double start, double end, double rtol, double atol,
+                                            uint64_t propagations, size_t event_budget, size_t output_budget,
+                                            const uint64_t *events, size_t events_len,
+                                            const double *samples, size_t samples_len,
+                                            uint64_t *folded, size_t folded_len, size_t *count);
+
+/* The amounts just before the start of a cycle that repeats itself, with the
+ * residuals of a run from them: the amounts at the end less those at the start.
+ *
+ * The events are folded as above. The runs that this takes, n + 2 of them, share
+ * the budgets, each divided by n + 2; samples are tested, and not used. Accepted
+ * is a solution that is finite and at least 0, whose own run reaches the end, and
+ * whose residuals are, state by state, at most absolute + relative * the larger
+ * of |start| and |end|.
+ *
+ * Replies 0, or the first number that holds of 40, 5, 1, 2, 19, those of
+ * linear_pk_normalize_periodic_cycle from 15 on, 13 and 14 on the divided
+ * budgets, 4, then 20, 21, 22, 30, 31, 32 in a run, 33, 34, 22 or 31 in the run
+ * of the solution, 35, 36. On 0 the first n cells of amounts and of residual are
+ * the answer, and *maximum the greatest scaled residual. At a refusal both
+ * slices stay as they were, *maximum is +0, and *time is the time of the row or
+ * boundary where a run stopped, else +0. */
+uint64_t linear_pk_periodic_steady_state(const double *kernel, size_t kernel_len,
+                                         double start, double end, double rtol, double atol,
+                                         uint64_t propagations, size_t event_budget, size_t output_budget,
+                                         const uint64_t *events, size_t events_len,
+                                         const double *samples, size_t samples_len,
+                                         double absolute, double relative,
+                                         double *amounts, size_t amounts_len,
+                                         double *residual, size_t residual_len,
+                                         double *time, double *maximum);
+
 /* The most bytes of a sheet that is read, and of a printout. */
 #define RIG_SHEET_BYTES 65536
 #define RIG_PRINTOUT_BYTES 46294
@@ -147,6 +204,17 @@ uint64_t linear_pk_simulate(const double *kernel, size_t kernel_len,
  * and *length is 0. RIG_PRINTOUT_BYTES are enough for every sheet. */
 uint64_t rig_run_sheet(const uint8_t *sheet, size_t sheet_len,
                        uint8_t *out, size_t out_len, size_t *length);
+
+/* The most bytes of a closed cycle's printout. */
+#define RIG_STEADY_BYTES 157
+
+/* The closed cycle of a sheet, as rig-steady prints it: a line for each state,
+ * its amount and its residual, then `max` and the greatest scaled residual; or
+ * its `refused` line. The amounts of the sheet are passed over. The reply, *length
+ * and out are as in rig_run_sheet; the numbers are 40, 5, 1, 2, 19, then those of
+ * linear_pk_periodic_steady_state. RIG_STEADY_BYTES are enough for every sheet. */
+uint64_t rig_steady_sheet(const uint8_t *sheet, size_t sheet_len,
+                          uint8_t *out, size_t out_len, size_t *length);
 
 #ifdef __cplusplus
 }

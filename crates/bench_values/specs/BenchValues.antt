@@ -3,7 +3,7 @@ use mathlib.Core.Path.{_≡_}
 use mathlib.Core.Bool.{true, false}
 use mathlib.Core.List.{List, [], _∷_}
 use mathlib.Core.Option.{some, none}
-use Prim.Native.Nat.{ℕ, _^_, _+_}
+use Prim.Native.Nat.{ℕ, _^_, _+_, _-_}
 use lib.IntN.{pos, negsuc}
 use lib.ListN.{length}
 use lib.Ieee.{Float, fin}
@@ -19,11 +19,13 @@ use Rattle.linear_pk.specs.declared.kernel.Absorption.the-variants.{Absent, Fir
 use Rattle.protocol.specs.Prepare.{prepare}
 use Rattle.protocol.specs.Execute.{Outcome, go, stop, runOf}
 use Rattle.protocol.specs.declared.Event.{Event}
-use Rattle.protocol.specs.declared.Event.the-variants.{Bolus, Reset}
+use Rattle.protocol.specs.declared.Event.the-variants.{Bolus, Infusion, Reset}
 use Rattle.protocol.specs.declared.Window.{Window}
 use Rattle.simulation.specs.KernelRun.{propagatorOf}
+use Rattle.cycle.specs.Fold.{fold}
+use Rattle.cycle.specs.Closed.{Timed, stopped, then, untimed, Solved, closed}
 
--- 2, 3, 4, 8
+-- 2, 3, 4, 5, 6, 8, 10, 16, 20
 abbrev pub two : Float
 two = fin false 1 (pos 1)
 
@@ -33,8 +35,23 @@ three = fin false 3 (pos 0)
 abbrev pub four : Float
 four = fin false 1 (pos 2)
 
+abbrev pub five : Float
+five = fin false 5 (pos 0)
+
+abbrev pub six : Float
+six = fin false 3 (pos 1)
+
 abbrev pub eight : Float
 eight = fin false 1 (pos 3)
+
+abbrev pub ten : Float
+ten = fin false 5 (pos 1)
+
+abbrev pub sixteen : Float
+sixteen = fin false 1 (pos 4)
+
+abbrev pub twenty : Float
+twenty = fin false 5 (pos 2)
 
 -- the matrix of a kernel's rates
 abbrev pub matrixOf : Result LinearPk → Result Matrix
@@ -52,9 +69,13 @@ after duration = andThen (single plusZero) (λ k. advance scheme k (three ∷ []
 abbrev pub halvings : Float → Result ℕ
 halvings clearance = andThen (single clearance) (λ k. andThen (propagator scheme (stateCount k) (k .rates) one) (λ e. done (e .halved)))
 
--- from 0, with tolerances 1 and budgets 100
-abbrev pub window : Float → Window
-window end = record { start = plusZero; end = end; rtol = one; atol = one; propagations = 100; events = 100; outputs = 100 }
+-- with tolerances 1 and budgets 100
+abbrev pub window : Float → Float → Window
+window start end = record { start = start; end = end; rtol = one; atol = one; propagations = 100; events = 100; outputs = 100 }
+
+-- the cycle of 0 to 8, folded for one state
+abbrev pub folded : List Event → Result (List Event)
+folded es = fold 1 (window plusZero eight) [] es
 
 -- a bolus of 1 at 8
 abbrev pub late : List Event
@@ -64,6 +85,10 @@ late = Bolus eight 0 one ∷ []
 abbrev pub ending : Outcome → Result (List Float)
 ending (go s) = done (s .amounts)
 ending (stop c t s) = refused c
+
+-- the closed cycle of 0 to 1 of a kernel, with tolerances 1
+abbrev pub closedBy : Result LinearPk → List Event → Timed Solved
+closedBy r es = then (untimed r) (λ k. closed (propagatorOf k) (stateCount k) (window plusZero one) [] es (record { absolute = one; relative = one }) true)
 
 pub record BenchValues : Type 0 where
   -- CL 2, V 4 and 8, q 1, k 0.5: rows (−0.5, 0, 0), (0.5, −0.75, 0.125), (0, 0.25, −0.125)
@@ -78,12 +103,25 @@ pub record BenchValues : Type 0 where
   pub p2 : after half ≡ done (four ∷ [])
   -- P2 with duration 0: 3
   pub p3 : after plusZero ≡ done (three ∷ [])
+  -- cycle 0..8, infusion at 6 of 10 over 5: 4 at 6 over 2, 6 at 0 over 3
+  pub p4 : folded (Infusion six 0 ten five ∷ []) ≡ done (Infusion six 0 four two ∷ Infusion plusZero 0 six three ∷ [])
+  -- 20 over 20: 16 at 0 over 8, 2 at 6 over 2, 2 at 0 over 2
+  pub p5 : folded (Infusion six 0 twenty twenty ∷ []) ≡ done (Infusion plusZero 0 sixteen eight ∷ Infusion six 0 two two ∷ Infusion plusZero 0 two two ∷ [])
+  -- P4 with a stopping reset at 1: 4 over 2, 2 over 1
+  pub p6 :
+      folded (Infusion six 0 ten five ∷ Reset one 0 plusZero 0 true ∷ [])
+      ≡ done (Infusion six 0 four two ∷ Infusion plusZero 0 two one ∷ Reset one 0 plusZero 0 true ∷ [])
+  -- bolus at 8: 16; a plain run takes it
+  pub p7 : folded late ≡ refused 16
+  pub p7-prepared : prepare 1 (window plusZero eight) [] late ≡ none
+  pub p7-run : andThen (single plusZero) (λ k. ending (runOf (propagatorOf k) 1 (window plusZero eight) [] late (three ∷ []))) ≡ done (four ∷ [])
   -- CL 2^59, V 1, duration 1: 60 halvings
   pub p8 : halvings (fin false 1 (pos 59)) ≡ done 60
   -- CL 2^59 + 128: 21
   pub p8-more : halvings (fin false (2 ^ 52 + 1) (pos 7)) ≡ refused 21
-  -- a plain run over 0 to 8 takes a bolus at 8
-  pub p7-prepared : prepare 1 (window eight) [] late ≡ none
-  pub p7-run : andThen (single plusZero) (λ k. ending (runOf (propagatorOf k) 1 (window eight) [] late (three ∷ []))) ≡ done (four ∷ [])
+  -- CL 0, V 1, no doses: 33
+  pub p9 : closedBy (single plusZero) [] ≡ stopped 33 plusZero
+  -- cycle −9·2^−55 to 1−2^−53, infusion at its start over 2: 12, as start + period rounds to 1
+  pub p10 : fold 1 (window (fin true 9 (negsuc 54)) (fin false (2 ^ 53 - 1) (negsuc 52))) [] (Infusion (fin true 9 (negsuc 54)) 0 one two ∷ []) ≡ refused 12
   -- resets at −0 and +0, order 1 both: 12
-  pub p11 : prepare 1 (window one) [] (Reset minusZero 0 one 1 false ∷ Reset plusZero 0 one 1 false ∷ []) ≡ some 12
+  pub p11 : prepare 1 (window plusZero one) [] (Reset minusZero 0 one 1 false ∷ Reset plusZero 0 one 1 false ∷ []) ≡ some 12

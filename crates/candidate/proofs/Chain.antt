@@ -1,16 +1,15 @@
 -- The candidate: the system, the runs and elimination; its acceptance, test by test.
-use mathlib.Core.Path.{_≡_, refl, sym, ap, _∙_}
-use mathlib.Core.Bool.{Bool, true, false, cond}
+use mathlib.Core.Path.{_≡_, sym, ap, _∙_}
+use mathlib.Core.Bool.{true, false, cond}
 use mathlib.Core.List.{List, []}
 use Prim.Native.Nat.{ℕ, _≤_, _<_}
-use lib.ListN.{length, getD, take, replicate}
+use lib.ListN.{getD, take, replicate}
 use lib.Seq.{getD-take}
 use lib.Dec.{eqb}
 use lib.Ieee.{Float, nan, binary64, sub, neg}
 use Rattle.binary64.specs.Doubles.{plusZero, one, nonnegative}
 use Rattle.binary64.specs.Lists.{all}
-use Rattle.refusal.specs.Result.{Result}
-use Rattle.matrix.specs.Matrix.{Matrix, cell, at, tabulate, table}
+use Rattle.matrix.specs.Matrix.{Matrix, cell, at, table}
 use Rattle.matrix.specs.Arrays.{lead}
 use Rattle.matrix.proofs.Filled.{tabulate-at}
 use Rattle.matrix.proofs.Rows.{table-at, table-cong}
@@ -19,8 +18,8 @@ use Rattle.protocol.specs.Execute.{Propagator}
 use Rattle.protocol.specs.declared.Event.{Event}
 use Rattle.protocol.specs.declared.Window.{Window}
 use Rattle.cycle.specs.declared.SteadyStateTolerance.{SteadyStateTolerance}
-use Rattle.cycle.specs.Elimination.{System, systemCell, systemOf, solve}
-use Rattle.cycle.specs.Closed.{Timed, stopped, got, then, untimed, lastOf, columnsTo, solution, greatestTo, residualsOf, Solved, accepted}
+use Rattle.cycle.specs.Elimination.{systemCell, systemOf, solve}
+use Rattle.cycle.specs.Closed.{stopped, got, then, untimed, lastOf, columnsTo, solution, greatestTo, residualsOf, accepted}
 use Rattle.cycle_run.specs.Ends.{columnsOf}
 
 -- ---- the system: identity minus the columns, whatever stands behind them in the array

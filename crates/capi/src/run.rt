@@ -1,63 +1,14 @@
 // The C interface of a run.
-use crate::kernel_at;
-use linear_pk::LinearPk;
 use protocol::Window;
-use simulation::Report;
 ghost use mathlib.Core.Path.{_≡_};
 ghost use lib.ListN.{length};
 ghost use Rattle.linear_pk.specs.LinearPk.{stateCount};
 ghost use Rattle.layout.specs.Layout.{eventsOf};
 ghost use Rattle.protocol.specs.Prepare.{reckoned};
 ghost use Rattle.protocol.specs.Entry.{replyOf, timesAtExit, sidesAtExit, valuesAtExit};
-ghost use Rattle.simulation.specs.Entries.{room, reported};
-ghost use Rattle.capi.specs.Cells.{kernelAt};
-ghost use Rattle.capi.specs.Run.{windowOf, simulateWords};
-
-// Words of an event.
-const WORDS: usize = 6;
-
-// A run of the events that the words hold: 40 where they are none.
-fn simulate_words(
-    kernel: LinearPk,
-    amounts: &[f64],
-    window: Window,
-    events: &[u64],
-    samples: &[f64],
-    times: &mut [f64],
-    sides: &mut [u8],
-    values: &mut [f64],
-) -> Report
-    ensures { λ r. ⌜ reported r ≡ replyOf (simulateWords kernel (now (amounts .entry)) window (now (events .entry)) (now (samples .entry))
-        (room (length (now (times .entry))) (length (now (sides .entry))) (length (now (values .entry))))) ⌝ }
-    ensures { λ r. ⌜ now (times .exit) ≡ timesAtExit (reckoned (now (samples .entry)) (eventsOf (now (events .entry)))) (simulateWords kernel (now (amounts .entry)) window (now (events .entry)) (now (samples .entry))
-        (room (length (now (times .entry))) (length (now (sides .entry))) (length (now (values .entry))))) (now (times .entry)) ⌝ }
-    ensures { λ r. ⌜ now (sides .exit) ≡ sidesAtExit (reckoned (now (samples .entry)) (eventsOf (now (events .entry)))) (simulateWords kernel (now (amounts .entry)) window (now (events .entry)) (now (samples .entry))
-        (room (length (now (times .entry))) (length (now (sides .entry))) (length (now (values .entry))))) (now (sides .entry)) ⌝ }
-    ensures { λ r. ⌜ now (values .exit) ≡ valuesAtExit (reckoned (now (samples .entry)) (eventsOf (now (events .entry)))) (stateCount kernel) (simulateWords kernel (now (amounts .entry)) window (now (events .entry)) (now (samples .entry))
-        (room (length (now (times .entry))) (length (now (sides .entry))) (length (now (values .entry))))) (now (values .entry)) ⌝ }
-{
-    if !layout::events_fit(events) {
-        return Report {
-            number: 40,
-            time: 0.0,
-            rows: 0,
-            advances: 0,
-        };
-    }
-    let list = layout::events_of(events);
-    let count = events.len() / WORDS;
-    simulation::report_of(simulation::simulate(
-        kernel,
-        amounts,
-        window,
-        list,
-        count,
-        samples,
-        times,
-        sides,
-        values,
-    ))
-}
+ghost use Rattle.simulation.specs.Entries.{room};
+ghost use Rattle.kernel_cells.specs.Cells.{kernelAt};
+ghost use Rattle.simulate_words.specs.Run.{windowOf, simulateWords};
 
 #[no_mangle]
 pub extern "C" fn linear_pk_simulate(
@@ -97,8 +48,8 @@ pub extern "C" fn linear_pk_simulate(
         events: event_budget,
         outputs: output_budget,
     };
-    let told = simulate_words(
-        kernel_at(kernel),
+    let told = simulate_words::simulate_words(
+        kernel_cells::kernel_at(kernel),
         amounts,
         window,
         events,

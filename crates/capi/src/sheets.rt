@@ -2,6 +2,7 @@
 ghost use mathlib.Core.Path.{_≡_};
 ghost use Rattle.printout.specs.Cells.{printed, printedLength};
 ghost use Rattle.rig.specs.Rig.{printoutOfBytes, numberInto};
+ghost use Rattle.steady_sheet.specs.SteadySheet.{steadyPrintoutOfBytes};
 
 #[no_mangle]
 pub extern "C" fn rig_run_sheet(sheet: &[u8], out: &mut [u8], length: &mut usize) -> u64
@@ -10,6 +11,17 @@ pub extern "C" fn rig_run_sheet(sheet: &[u8], out: &mut [u8], length: &mut usize
     ensures { λ r. ⌜ now (out .exit) ≡ printed (printoutOfBytes (now (sheet .entry)) .text) (now (out .entry)) ⌝ }
 {
     let reply = rig::run_sheet(sheet, out);
+    *length = reply.length;
+    reply.number
+}
+
+#[no_mangle]
+pub extern "C" fn rig_steady_sheet(sheet: &[u8], out: &mut [u8], length: &mut usize) -> u64
+    ensures { λ r. ⌜ r ≡ numberInto (now (out .entry)) (steadyPrintoutOfBytes (now (sheet .entry))) ⌝ }
+    ensures { λ r. ⌜ now (length .exit) ≡ printedLength (steadyPrintoutOfBytes (now (sheet .entry)) .text) (now (out .entry)) ⌝ }
+    ensures { λ r. ⌜ now (out .exit) ≡ printed (steadyPrintoutOfBytes (now (sheet .entry)) .text) (now (out .entry)) ⌝ }
+{
+    let reply = steady_sheet::steady_sheet(sheet, out);
     *length = reply.length;
     reply.number
 }

@@ -5,12 +5,11 @@ use native.Mathlib.Nat.{mul-pos, zero-lt-suc, zero-mul}
 use native.Mathlib.Omega.{arith}
 use mathlib.Core.Bool.{Bool, true, false, not, cond, _&&_, _||_}
 use mathlib.Core.List.{List, [], _∷_, _++_}
-use lib.Pow.{pow-pos}
 use lib.Dec.{T, leb, ltb, eqb, ltb→lt, eqb·suc-zero}
 use lib.ListN.{length, length-append}
-use lib.Ieee.{Float, nan, inf, fin, Format, binary64, prec, low, emax, up, down, round, add, sub, div, rem, lt, le, fits, unlike}
+use lib.Ieee.{Float, nan, inf, fin, Format, binary64, up, down, round, add, sub, div, lt, le, fits, unlike}
 use lib.Ieee.Fits.{up-pos}
-use lib.Ieee.Exact.{HasValue, round-exact}
+use lib.Ieee.Exact.{HasValue}
 use lib.Ieee.Scale.{finite}
 use Rattle.binary64.specs.Doubles.{plusZero, one, nonnegative, positive, floorOf}
 use Rattle.binary64.specs.Lists.{any, all, pick}
@@ -22,9 +21,10 @@ use Rattle.protocol.specs.First as F
 use Rattle.protocol.specs.Events.{time, target}
 use Rattle.protocol.specs.Prepare.{windowPasses, within, sameReset, eventPasses, eventsPass, reckoned, prepare}
 use Rattle.protocol.proofs.ListLaws.{both, and-T}
-use Rattle.cycle.specs.Fold.{period, cyclePasses, countPasses, timePasses, infusionPasses, stopping, stopOf, whole, piece, headOf, tail, parts, wholes, lasting, pieces, withEvent, withEvents, validated, fold}
+use Rattle.cycle.specs.Fold.{period, cyclePasses, countPasses, timePasses, infusionPasses, stopping, stopOf, whole, piece, tail, parts, wholes, lasting, pieces, withEvent, withEvents, validated, fold}
 use Rattle.cycle.specs.Closed.{divided, zeroed, homogeneous}
 use Rattle.cycle.specs.FoldedCycle.{budgetNumber, EveryFold}
+use Rattle.cycle.proofs.Rounding.{zero-value}
 use Rattle.cycle.proofs.Results.{Gives, gives-then, gives-test, gives-last, gives-done, gives-number}
 
 -- ---- the pieces of an event at t: at most k, and their times are doubles
@@ -45,23 +45,19 @@ module _ (w : Window) (t : Float) (i : ℕ) (r : Float) where
 
   parts-few : (left : Float) → Few 2 w t (parts w t i r left)
   unfolding parts
-  parts-few left = on (lt plusZero left) (tail-few (sub binary64 left (headOf w t left)))
+  parts-few left = on (lt plusZero left) _ _ (tail-few _)
     where
-      rest : List Event
-      rest = tail w i r (sub binary64 left (headOf w t left))
-
-      on : (b : Bool) → Few 1 w t rest → Few 2 w t (cond b (piece t i r (headOf w t left) ∷ rest) [])
-      on true h = record { few = omega arith; times = λ s f. and-T (fits binary64 t) (all timeFits rest) f (h .times s f) }
-      on false h = record { few = omega arith; times = λ _ _. tt }
+      on : (b : Bool) (h : Float) (ps : List Event) → Few 1 w t ps → Few 2 w t (cond b (piece t i r h ∷ ps) [])
+      on true h ps k = record { few = omega arith; times = λ s f. and-T (fits binary64 t) (all timeFits ps) f (k .times s f) }
+      on false h ps k = record { few = omega arith; times = λ _ _. tt }
 
   wholes-few : (left c : Float) → Few 3 w t (wholes w t i r left c)
   unfolding wholes
-  wholes-few left c = on (le one c) (parts-few (rem binary64 left (period w))) (parts-few left)
+  wholes-few left c = on (le one c) _ _ (parts-few _) (parts-few left)
     where
-      on : (b : Bool) → Few 2 w t (parts w t i r (rem binary64 left (period w))) → Few 2 w t (parts w t i r left)
-          → Few 3 w t (cond b (whole w i r c ∷ parts w t i r (rem binary64 left (period w))) (parts w t i r left))
-      on true h k = record { few = omega arith; times = λ s f. and-T (fits binary64 (w .start)) (all timeFits (parts w t i r (rem binary64 left (period w)))) s (h .times s f) }
-      on false h k = record { few = omega arith; times = k .times }
+      on : (b : Bool) (ps qs : List Event) → Few 2 w t ps → Few 2 w t qs → Few 3 w t (cond b (whole w i r c ∷ ps) qs)
+      on true ps qs h k = record { few = omega arith; times = λ s f. and-T (fits binary64 (w .start)) (all timeFits ps) s (h .times s f) }
+      on false ps qs h k = record { few = omega arith; times = k .times }
 
 -- ---- the fold's numbers
 abbrev pub folding : List ℕ
@@ -163,11 +159,6 @@ has-finite nan s a c v = absurd v
 has-finite (inf t) s a c v = absurd v
 has-finite (fin t m e) s a c v = tt
 
-round-none : (f : Format) (s : Bool) (a c : ℕ) → a ≡ 0 → 0 < c → T (finite (round f s a c))
-round-none f s a c p h =
-    subst (λ (x : ℕ). T (finite (round f s x c))) (sym p)
-    (has-finite (round f s 0 c) s 0 c (round-exact f s 0 c 0 0 h (pow-pos (prec f)) (subst (λ (x : ℕ). x < 2 ^ (low f + suc (emax f))) (sym (zero-mul (2 ^ 0))) (pow-pos (low f + suc (emax f)))) (simp zero-mul)))
-
 zero-over : (f : Format) (d : Float) → T (positive d) → T (finite (div f plusZero d))
 unfolding div lt
 zero-over f nan h = absurd h
@@ -179,7 +170,7 @@ zero-over f (fin false zero e) h = absurd (no (ltb→lt (0 * down e) (0 * up e *
     no p = omega (arith, let z : 0 * up e * 1 ≡ 0 = simp zero-mul in z)
 zero-over f (fin false (suc m) e) h =
     subst (λ (b : Bool). T (finite (cond b (cond (eqb 0 0) nan (inf (unlike false false))) (round f (unlike false false) (0 * 2 ^ 0 * down e) (suc m * up e * 1))))) (sym (eqb·suc-zero m))
-    (round-none f false (0 * 2 ^ 0 * down e) (suc m * up e * 1) (simp zero-mul) (mul-pos (mul-pos (zero-lt-suc m) (up-pos e)) (zero-lt-suc 0)))
+    (has-finite (round f false (0 * 2 ^ 0 * down e) (suc m * up e * 1)) false 0 (suc m * up e * 1) (zero-value f false (0 * 2 ^ 0 * down e) (suc m * up e * 1) (simp zero-mul) (mul-pos (mul-pos (zero-lt-suc m) (up-pos e)) (zero-lt-suc 0))))
 
 zeroed-reset : (t : Float) (o : ℕ) (seen : List Event) → any (sameReset t o) (homogeneous seen) ≡ any (sameReset t o) seen
 unfolding homogeneous zeroed

@@ -1,5 +1,5 @@
 -- What a chain of tests gives: a refusal's number is one of a list's, and what is handed on has a property. Assumes nothing.
-use mathlib.Core.Path.{_≡_, refl, sym, subst}
+use mathlib.Core.Path.{_≡_, refl, sym, ap, subst}
 use Prim.Native.Nat.{ℕ}
 use native.Mathlib.Omega.{arith}
 use mathlib.Core.Bool.{Bool, true, false, _||_}
@@ -93,6 +93,15 @@ no-answer q = let z : _≡_ {A = ℕ} 0 1 = cc in omega arith
 
 pub same-answer : {A : Type 0} {a b : A} → got a ≡ got b → a ≡ b
 same-answer q = cc
+
+-- what is handed on came from a first value that was
+pub then-got : {A B : Type 0} (r : Timed A) (f : A → Timed B) (b : B) → then r f ≡ got b → (a : A) × (r ≡ got a) × (f a ≡ got b)
+then-got (stopped c t) f b q = absurd (no-answer q)
+then-got (got a) f b q = (a, refl, q)
+
+pub untimed-got : {A : Type 0} (r : Result A) (a : A) → untimed r ≡ got a → r ≡ done a
+untimed-got (refused c) a q = absurd (no-answer q)
+untimed-got (done x) a q = ap done (same-answer q)
 
 module _ {A : Type 0} (cs : List ℕ) (P : A → Type 0) where
   pub hands-got : (r : Timed A) (a : A) → Hands cs P r → r ≡ got a → P a

@@ -1,13 +1,12 @@
 -- A scaled residual never has its sign set: so one that is at most 1 is finite. Assumes nothing.
-use mathlib.Core.Path.{_≡_, sym, ap, _∙_, subst}
-use Prim.Native.Nat.{ℕ, zero, suc, _+_, _-_, _*_, _^_, _<_}
+use mathlib.Core.Path.{_≡_, ap, _∙_, subst}
+use Prim.Native.Nat.{ℕ, zero, suc, _+_, _-_, _*_, _<_}
 use native.Mathlib.Nat.{zero-mul, mul-pos, zero-lt-suc}
 use native.Mathlib.Omega.{arith}
 use mathlib.Core.Bool.{Bool, true, false, not, cond, _&&_, _||_}
-use lib.Pow.{pow-pos}
 use lib.Dec.{T, ltb, eqb, ltb→lt, eqb→eq, eqb·suc-zero}
-use lib.Ieee.{Float, nan, inf, fin, Format, binary64, prec, low, emax, up, down, odd, units, round, sum, add, sub, mul, div, lt, le, isNan}
-use lib.Ieee.Exact.{HasValue, round-exact}
+use lib.Ieee.{Float, nan, inf, fin, Format, binary64, up, down, round, sum, add, sub, mul, div, lt, le, isNan}
+use lib.Ieee.Exact.{HasValue}
 use lib.Ieee.Fits.{up-pos, down-pos}
 use lib.Ieee.Scale.{finite}
 use Rattle.binary64.specs.Doubles.{negative, magnitude, totalLe, larger, nonnegative, positive, one}
@@ -15,6 +14,7 @@ use Rattle.binary64.proofs.Signs.{atLeastZero, nonnegative→atLeastZero}
 use Rattle.protocol.proofs.ListLaws.{both}
 use Rattle.cycle.specs.declared.SteadyStateTolerance.{SteadyStateTolerance}
 use Rattle.cycle.specs.Closed.{tolerancePasses, scaleOf, scaledOf}
+use Rattle.cycle.proofs.Rounding.{zero-value, round-clear}
 
 -- a NaN, or the sign is clear; a NaN, or not below 0
 abbrev Clear : Float → Type 0
@@ -24,22 +24,6 @@ abbrev Fair : Float → Type 0
 Fair nan = Unit {0}
 Fair (inf s) = T (not s)
 Fair (fin s m e) = T (not s || eqb m 0)
-
--- ---- what is rounded keeps its sign, and 0 is 0
-round-clear : (f : Format) (a c : ℕ) → Clear (round f false a c)
-unfolding round units odd
-round-clear f a c = units-clear _ _
-  where
-    odd-clear : (d q k l : ℕ) → Clear (odd d false q k l)
-    odd-clear d zero k l = tt
-    odd-clear d (suc q) k l = tt
-
-    units-clear : (q k : ℕ) → Clear (units f false q k)
-    units-clear q k = on (ltb (q * 2 ^ k) (2 ^ (low f + suc (emax f))))
-      where
-        on : (b : Bool) → Clear (cond b (odd (suc (prec f)) false q k (low f)) (inf false))
-        on true = odd-clear (suc (prec f)) q k (low f)
-        on false = tt
 
 clear-fair : (x : Float) → Clear x → Fair x
 clear-fair nan h = tt
@@ -58,9 +42,7 @@ value-fair (fin true (suc k) e) c h v = absurd (no (suc k * up e * c) (mul-pos (
     no x p q = omega arith
 
 round-zero : (f : Format) (a c : ℕ) → a ≡ 0 → 0 < c → Fair (round f true a c)
-round-zero f a c p h =
-    subst (λ (x : ℕ). Fair (round f true x c)) (sym p)
-    (value-fair (round f true 0 c) c h (round-exact f true 0 c 0 0 h (pow-pos (prec f)) (subst (λ (x : ℕ). x < 2 ^ (low f + suc (emax f))) (sym (zero-mul (2 ^ 0))) (pow-pos (low f + suc (emax f)))) (simp zero-mul)))
+round-zero f a c p h = value-fair (round f true a c) c h (zero-value f true a c p h)
 
 -- ---- magnitudes
 magnitude-clear : (x : Float) → Clear (magnitude x)

@@ -22,8 +22,9 @@ use Rattle.cycle.specs.declared.SteadyStateTolerance.{SteadyStateToleran
 use Rattle.cycle.specs.Elimination.{System, systemOf, leastPivot, pivotOf, pivotPasses, exchanged, reduced, eliminateColumn, eliminateTo, solveTo, solve}
 use Rattle.cycle.specs.Closed.{Timed, stopped, got, then, tolerancePasses, divided, ready, homogeneous, lastPost, endOf, unit, lastOf, columnsTo, solution, candidateOf, greatestTo, residualsOf, Solved, accepted, closed}
 use Rattle.cycle.specs.ClosedCycle.{TimesFit, closedNumbers, Yields, Accepts, largestTo, Answers, EveryClosedCycle}
-use Rattle.cycle.proofs.Results.{Gives, gives-then, gives-last, Hands, hands-then, hands-test, hands-map, hands-self, hands-got, hands-number, no-answer, same-answer, hands-untimed, among, test-passes}
+use Rattle.cycle.proofs.Results.{Gives, gives-then, gives-last, Hands, hands-then, hands-test, hands-map, hands-self, hands-got, hands-number, same-answer, hands-untimed, among, test-passes}
 use Rattle.cycle.proofs.InnerRuns.{Ready, ready-hands, Inner, ready-inner, run-leaves}
+use Rattle.cycle.proofs.Candidates.{solution-yields, yields-solution, candidate-yields, yields-candidate}
 use Rattle.cycle.proofs.Residuals.{Greatest, greatest-hands, small-greatest}
 
 -- ---- the amounts that runs start from
@@ -141,11 +142,9 @@ module _ (n : ℕ) (advance : Propagator) (laws : KernelLaws n advance) (w : Win
   abbrev whole : Timed Solved
   whole = closed advance n w ss es tol true
 
-  record Closes (s : Solved) : Type 0 where
-    candidate : List Float
-    yielded : Yields advance n w ss es tol candidate
-    accepts : Accepts advance n w tol (yielded .folded) candidate
-    answers : Answers n tol candidate (lastPost [] (accepts .left .rows)) s
+  -- an answer's amounts are a candidate
+  abbrev Closes : Solved → Type 0
+  Closes s = Yields advance n w ss es tol (s .amounts)
 
   closed-hands : Hands closedNumbers Closes whole
   unfolding closed
@@ -156,7 +155,7 @@ module _ (n : ℕ) (advance : Propagator) (laws : KernelLaws n advance) (w : Win
       hands-then closedNumbers Closes (λ (c : List Float). (solution advance n w fs ≡ got c) × Sized n c) (solution advance n w fs) (accepted advance n w tol fs)
       (hands-self closedNumbers (Sized n) (solution advance n w fs) (solution-hands n advance laws w es fs i))
       (λ c g. hands-map closedNumbers (Accepted n advance laws w es fs i tol c) Closes (accepted advance n w tol fs c)
-      (λ s h. record { candidate = c; yielded = record { folded = fs; prepared = q .0; solves = g .0 }; accepts = h .0; answers = h .1 })
+      (λ s h. subst (Yields advance n w ss es tol) (sym (h .1 .amounts)) (solution-yields advance n w ss es tol c fs (q .0) (g .0)))
       (accepted-hands n advance laws w es fs i tol c (g .1))))
 
   -- behind the candidate
@@ -168,13 +167,13 @@ module _ (n : ℕ) (advance : Propagator) (laws : KernelLaws n advance) (w : Win
     inner = ready-inner n w ss es tol (y .folded) fit (y .prepared)
 
     sized : Sized n c
-    sized = hands-got closedNumbers (Sized n) (solution advance n w (y .folded)) c (solution-hands n advance laws w es (y .folded) inner) (y .solves)
+    sized = hands-got closedNumbers (Sized n) (solution advance n w (y .folded)) c (solution-hands n advance laws w es (y .folded) inner) (yields-solution advance n w ss es tol c y)
 
     closed-is : whole ≡ accepted advance n w tol (y .folded) c
     unfolding closed
     closed-is =
         ap (λ (r : Timed (List Event)). then r (λ fs. then (solution advance n w fs) (accepted advance n w tol fs))) (y .prepared)
-        ∙ ap (λ (r : Timed (List Float)). then r (accepted advance n w tol (y .folded))) (y .solves)
+        ∙ ap (λ (r : Timed (List Float)). then r (accepted advance n w tol (y .folded))) (yields-solution advance n w ss es tol c y)
 
     to : (s : Solved) × (whole ≡ got s) → Accepts advance n w tol (y .folded) c
     to (s, q) = hands-got closedNumbers (Accepted n advance laws w es (y .folded) inner tol c) (accepted advance n w tol (y .folded) c) s (accepted-hands n advance laws w es (y .folded) inner tol c sized) (sym closed-is ∙ q) .0
@@ -191,21 +190,6 @@ module _ (n : ℕ) (advance : Propagator) (laws : KernelLaws n advance) (w : Win
       run-leaves advance n (divided n w) [] (y .folded) c (a .left) (inner .prepared) (a .reaches),
     )
 
-  yielding : (c : List Float) → candidateOf advance n w ss es tol ≡ got c → Yields advance n w ss es tol c
-  unfolding candidateOf
-  yielding c q = on (ready n w ss es tol) refl q
-    where
-      on : (r : Timed (List Event)) → ready n w ss es tol ≡ r → then r (solution advance n w) ≡ got c → Yields advance n w ss es tol c
-      on (stopped k t) p q = absurd (no-answer q)
-      on (got fs) p q = record { folded = fs; prepared = p; solves = q }
-
-  yielded : (c : List Float) → Yields advance n w ss es tol c → candidateOf advance n w ss es tol ≡ got c
-  unfolding candidateOf
-  yielded c y = ap (λ (r : Timed (List Event)). then r (solution advance n w)) (y .prepared) ∙ y .solves
-
-  needs : (s : Solved) → whole ≡ got s → Yields advance n w ss es tol (s .amounts)
-  needs s q = let h = hands-got closedNumbers Closes whole s closed-hands q in subst (Yields advance n w ss es tol) (sym (h .answers .amounts)) (h .yielded)
-
   refuses : (c : ℕ) (t : Float) → candidateOf advance n w ss es tol ≡ stopped c t → whole ≡ stopped c t
   unfolding candidateOf closed
   refuses c t = on (ready n w ss es tol)
@@ -217,10 +201,10 @@ module _ (n : ℕ) (advance : Propagator) (laws : KernelLaws n advance) (w : Win
 pub closed-cycle : EveryClosedCycle
 closed-cycle n advance laws w ss es tol fit = record {
   numbers = λ c t q. hands-number closedNumbers (Closes n advance laws w ss es tol fit) (closed advance n w ss es tol true) c t (closed-hands n advance laws w ss es tol fit) q;
-  yields = λ c. (yielding n advance laws w ss es tol fit c, yielded n advance laws w ss es tol fit c);
+  yields = λ c. (candidate-yields advance n w ss es tol c, yields-candidate advance n w ss es tol c);
   accepts = λ c y. (to n advance laws w ss es tol fit c y, λ a. (_, fro n advance laws w ss es tol fit c y a));
   answer = answers n advance laws w ss es tol fit;
-  needs = needs n advance laws w ss es tol fit;
+  needs = λ s q. hands-got closedNumbers (Closes n advance laws w ss es tol fit) (closed advance n w ss es tol true) s (closed-hands n advance laws w ss es tol fit) q;
   refuses = refuses n advance laws w ss es tol fit;
   ends = ends n advance laws w ss es tol fit;
 }

@@ -5,18 +5,21 @@ use mathlib.Core.Bool.{true}
 use mathlib.Core.List.{List, [], _∷_}
 use mathlib.Core.Logic.{_↔_}
 use lib.Dec.{T}
+use lib.ListN.{length, getD, replicate}
 use lib.Ieee.{Float, binary64, fits, le}
 use lib.Ieee.Scale.{finite}
 use Rattle.binary64.specs.Doubles.{plusZero, one, nonnegative, larger}
 use Rattle.binary64.specs.Lists.{all}
 use Rattle.matrix.specs.Matrix.{cell}
+use Rattle.refusal.specs.Result.{done}
 use Rattle.protocol.specs.declared.Event.{Event}
 use Rattle.protocol.specs.declared.Window.{Window}
 use Rattle.protocol.specs.Events.{time}
 use Rattle.protocol.specs.Execute.{Propagator, State, go, runOf}
 use Rattle.protocol.specs.PlainRun.{oneOf, KernelLaws, Reached}
 use Rattle.cycle.specs.declared.SteadyStateTolerance.{SteadyStateTolerance}
-use Rattle.cycle.specs.Closed.{stopped, got, divided, ready, lastPost, solution, candidateOf, scaleOf, scaledOf, residualsOf, Solved, closed}
+use Rattle.cycle.specs.Elimination.{systemOf, solve}
+use Rattle.cycle.specs.Closed.{stopped, got, divided, ready, homogeneous, lastPost, unit, lastOf, candidateOf, scaleOf, scaledOf, residualsOf, Solved, closed}
 
 -- ---- what is given
 -- the times are doubles
@@ -30,11 +33,19 @@ pub record TimesFit (w : Window) (es : List Event) : Type 0 where
 abbrev pub closedNumbers : List ℕ
 closedNumbers = 10 ∷ 11 ∷ 12 ∷ 13 ∷ 14 ∷ 15 ∷ 16 ∷ 17 ∷ 18 ∷ 19 ∷ 20 ∷ 21 ∷ 22 ∷ 30 ∷ 31 ∷ 32 ∷ 33 ∷ 34 ∷ 35 ∷ 36 ∷ []
 
--- elimination yields the candidate c, from the list that was folded and prepared
+-- elimination yields the candidate c: neither 33 nor a refusal ahead of it comes up
 pub record Yields (advance : Propagator) (n : ℕ) (w : Window) (ss : List Float) (es : List Event) (tol : SteadyStateTolerance) (c : List Float) : Type 0 where
+  -- the list that was folded and prepared
   pub folded : List Event
   pub prepared : ready n w ss es tol ≡ got folded
-  pub solves : solution advance n w folded ≡ got c
+  -- the last post row of the run from zero
+  pub right : List Float
+  pub from-zero : lastOf advance n w folded (replicate n plusZero) ≡ got right
+  -- that of the run from each unit amount, with doses and resets zeroed
+  pub columns : List (List Float)
+  pub count : length columns ≡ n
+  pub from-units : (j : ℕ) → j < n → lastOf advance n w (homogeneous folded) (unit n j) ≡ got (getD columns j [])
+  pub solves : solve n (systemOf n columns right) ≡ done c
 
 -- when the candidate c of the folded list fs is accepted
 pub record Accepts (advance : Propagator) (n : ℕ) (w : Window) (tol : SteadyStateTolerance) (fs : List Event) (c : List Float) : Type 0 where

@@ -9,7 +9,7 @@ use lib.Ieee.{Float, binary64, add, sub, mul, div, rem, lt, le}
 use lib.Ieee.Scale.{finite}
 use Rattle.binary64.specs.Doubles.{plusZero, one, nonnegative, positive, smaller, floorOf}
 use Rattle.binary64.specs.Lists.{any, all, pick}
-use Rattle.refusal.specs.Result.{Result, refused, done, andThen, unless}
+use Rattle.refusal.specs.Result.{Result, done, andThen, unless}
 use Rattle.protocol.specs.declared.Event.{Event}
 use Rattle.protocol.specs.declared.Event.the-variants.{Bolus, Infusion, Reset}
 use Rattle.protocol.specs.declared.Window.{Window}

@@ -1,8 +1,8 @@
 // The bytes of one more cycle from the amounts of a closed one, into lent cells.
 use cycle::SteadyStateTolerance;
-use printout::bits;
-use printout::put_bits;
-use printout::put_text;
+use number_text::bits;
+use number_text::put_bits;
+use number_text::put_text;
 use residual::scale;
 ghost use mathlib.Core.Path.{_≡_};
 ghost use Prim.Native.Nat.{_+_, _*_, _≤_};

@@ -23,7 +23,7 @@ use Rattle.simulate_matrix.specs.Started.{started}
 use Rattle.simulation.specs.KernelRun.{propagatorOf}
 use Rattle.cycle.specs.Closed.{Timed, stopped, got, divided, endOf, lastOf}
 use Rattle.cycle.proofs.InnerRuns.{run-leaves}
-use Rattle.cycle_run.specs.Ends.{Runs, cycleEnd}
+use Rattle.cycle_run.specs.Ends.{Runs}
 
 -- ---- room for the reckoned rows
 pub inner-room : (n : ℕ) (es : List Event) (c : Cells) → n ≤ 4 → length es ≤ 192 → 770 ≤ length (c .times) → 770 ≤ length (c .sides) → 3080 ≤ length (c .values) → Room n (reckoned [] es) c

@@ -1,5 +1,5 @@
 -- The list with doses and reset values zeroed: of each event's numbers in a packed list, only the second changes.
-use mathlib.Core.Path.{_≡_, refl, sym, ap, _∙_}
+use mathlib.Core.Path.{_≡_, refl, ap, _∙_}
 use mathlib.Core.Bool.{Bool, true, false, cond}
 use mathlib.Core.List.{List, [], _∷_, map}
 use Prim.Native.Nat.{ℕ, zero, suc, _+_, _%_, _≤_, _<_}
@@ -13,7 +13,6 @@ use Rattle.binary64.specs.Doubles.{plusZero}
 use Rattle.matrix.specs.Matrix.{tabulate, tabulateFrom}
 use Rattle.matrix.proofs.Filled.{tabulate-cong}
 use Rattle.events.specs.Packed.{real, word, eventAt, packed}
-use Rattle.protocol.specs.declared.Event.{Event}
 use Rattle.protocol.specs.declared.Event.the-variants.{Bolus, Infusion, Reset}
 use Rattle.cycle.specs.Closed.{zeroed, homogeneous}
 use Rattle.cycle_run.specs.Ends.{zeroedRow}

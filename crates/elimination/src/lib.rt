@@ -16,7 +16,6 @@ ghost use Rattle.matrix.specs.Matrix.{at as atOf, table as tableOf};
 ghost use Rattle.matrix.specs.Arrays.{lead};
 ghost use Rattle.refusal.specs.Numbers.{resultOf};
 ghost use Rattle.cycle.specs.Elimination.{swapped, systemCell, solve as solveOf};
-ghost use Rattle.elimination.specs.Tables.{held};
 
 // The entry at row i, column j.
 fn at(a: &[[f64; STATES]; STATES], i: usize, j: usize) -> f64
@@ -26,7 +25,7 @@ fn at(a: &[[f64; STATES]; STATES], i: usize, j: usize) -> f64
     a[i][j]
 }
 
-// Rows k and p exchanged.
+// Rows k and p exchanged. An array has as many rows as its type says.
 fn exchanged(a: [[f64; STATES]; STATES], k: usize, p: usize) -> [[f64; STATES]; STATES]
     requires { ⌜ (k < 4) × (p < 4) ⌝ }
     ensures { λ r. ⌜ (r ≡ swapped [] k p a) × (length a ≡ 4) ⌝ }
@@ -45,7 +44,7 @@ pub fn system(n: usize, columns: &[[f64; STATES]; STATES]) -> [[f64; STATES]; ST
     table::table(Cells::System, columns, n)
 }
 
-// The amounts, where there is a reply of done.
+// The amounts, where the reply is done.
 pub struct Solution {
     pub reply: Reply,
     pub amounts: [f64; STATES],

@@ -3,7 +3,7 @@ use mathlib.Core.List.{List, [], _∷_}
 use Prim.Native.Nat.{ℕ}
 use Rattle.binary64.specs.Lists.{gather}
 use Rattle.events.specs.Packed.{bit}
-use Rattle.printout.specs.Printout.{bitsOf}
+use Rattle.number_text.specs.Digits.{bitsOf}
 use Rattle.protocol.specs.declared.Event.{Event}
 use Rattle.protocol.specs.declared.Event.the-variants.{Bolus, Infusion, Reset}
 

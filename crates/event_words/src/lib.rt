@@ -3,7 +3,7 @@ use protocol::Event;
 ghost use mathlib.Core.Path.{_≡_};
 ghost use Prim.Native.Nat.{_+_, _≤_};
 ghost use lib.ListN.{length};
-ghost use Rattle.printout.specs.Cells.{Wrote};
+ghost use Rattle.number_text.specs.Written.{Wrote};
 ghost use Rattle.events.specs.Packed.{bit};
 ghost use Rattle.event_words.specs.Words.{eventWords};
 
@@ -26,9 +26,9 @@ fn words_of(event: Event) -> [u64; WORDS]
             amount,
         } => [
             0,
-            printout::bits(time),
+            number_text::bits(time),
             target as u64,
-            printout::bits(amount),
+            number_text::bits(amount),
             0,
             0,
         ],
@@ -39,10 +39,10 @@ fn words_of(event: Event) -> [u64; WORDS]
             duration,
         } => [
             1,
-            printout::bits(time),
+            number_text::bits(time),
             target as u64,
-            printout::bits(amount),
-            printout::bits(duration),
+            number_text::bits(amount),
+            number_text::bits(duration),
             0,
         ],
         Event::Reset {
@@ -53,9 +53,9 @@ fn words_of(event: Event) -> [u64; WORDS]
             stops,
         } => [
             2,
-            printout::bits(time),
+            number_text::bits(time),
             target as u64,
-            printout::bits(value),
+            number_text::bits(value),
             order as u64,
             flag(stops),
         ],

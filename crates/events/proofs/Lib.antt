@@ -1,5 +1,4 @@
 pub mod Packing
 pub mod Scans
-pub mod Settling
 pub mod Marking
 pub mod Laying

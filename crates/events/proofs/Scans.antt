@@ -11,6 +11,7 @@ use lib.Seq.{drop-cons, getD-take, take-set-lt, set-out}
 use lib.Ieee.{Float, nan, binary64, add}
 use Rattle.matrix.specs.Matrix.{tabulate, tabulateFrom}
 use Rattle.binary64.specs.Lists.{any, gather}
+pub use Rattle.sorted_times.proofs.Either.{or-regroup, or-none, any-append}
 use Rattle.protocol.specs.Events.{target}
 use Rattle.protocol.specs.Schedule.{withRate, withRates, flows, rateOf, addTo}
 use Rattle.protocol.specs.declared.Event.{Event}
@@ -32,18 +33,6 @@ module _ {A : Type 0} (f : ℕ → A) (count : ℕ) where
   pub left-none : (i : ℕ) → count ≤ i → left i ≡ []
   unfolding left tabulateFrom
   left-none i h = let e : count - i ≡ 0 = omega arith in rw e
-
-pub or-regroup : (a b c : Bool) → (a || b) || c ≡ a || (b || c)
-or-regroup true b c = refl
-or-regroup false b c = refl
-
-pub or-none : (a : Bool) → a || false ≡ a
-or-none true = refl
-or-none false = refl
-
-pub any-append : {A : Type 0} (p : A → Bool) (xs ys : List A) → any p (xs ++ ys) ≡ any p xs || any p ys
-any-append p [] ys = refl
-any-append p (x ∷ xs) ys = ap (λ (b : Bool). p x || b) (any-append p xs ys) ∙ sym (or-regroup (p x) (any p xs) (any p ys))
 
 -- whether one of what g gives passes
 module _ {A B : Type 0} (p : B → Bool) (g : A → List B) (f : ℕ → A) (count : ℕ) where

@@ -1,6 +1,5 @@
 // The boundaries of a run.
 use crate::EVENTS;
-use crate::order;
 use crate::packed;
 use protocol::Event;
 use protocol::Window;
@@ -78,5 +77,5 @@ pub fn boundaries(
         × T (all (fits binary64) (boundaryTimes (window .start) (window .end) (packed (now (reals .entry)) (now (words .entry)) count))) ⌝ }
 {
     let n = lay(window, reals, words, count, bounds);
-    order::sorted_unique(&mut bounds[..n])
+    sorted_times::sorted_unique(&mut bounds[..n])
 }

@@ -1,11 +1,9 @@
 // Lists of events in arrays of numbers, and what a run asks of them.
 mod bounds;
-mod order;
 mod packed;
 mod scan;
 
 pub use bounds::boundaries;
-pub use order::sorted_unique;
 pub use packed::event_at;
 pub use packed::no_event;
 pub use packed::pack;
@@ -15,6 +13,7 @@ pub use packed::time_of;
 pub use scan::has_event;
 pub use scan::mark;
 pub use scan::summed_rates;
+pub use sorted_times::sorted_unique;
 
 // The most events of a run's list.
 pub const EVENTS: usize = 192;

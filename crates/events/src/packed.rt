@@ -15,26 +15,29 @@ pub fn event_at(reals: &[[f64; 3]; EVENTS], words: &[[usize; 4]; EVENTS], i: usi
     ensures { λ r. ⌜ r ≡ eventAt (now (reals .entry)) (now (words .entry)) i ⌝ }
 {
     let kind = words[i][0];
+    let target = words[i][1];
+    let time = reals[i][0];
+    let amount = reals[i][1];
     if kind == 0 {
         return Event::Bolus {
-            time: reals[i][0],
-            target: words[i][1],
-            amount: reals[i][1],
+            time,
+            target,
+            amount,
         };
     }
     if kind == 1 {
         return Event::Infusion {
-            time: reals[i][0],
-            target: words[i][1],
-            amount: reals[i][1],
+            time,
+            target,
+            amount,
             duration: reals[i][2],
         };
     }
     let order = (words[i][2] % 65536) as u16;
     Event::Reset {
-        time: reals[i][0],
-        target: words[i][1],
-        value: reals[i][1],
+        time,
+        target,
+        value: amount,
         order,
         stops: words[i][3] == 1,
     }

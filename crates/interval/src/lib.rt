@@ -1,8 +1,8 @@
 // Amounts after an interval with constant input rates, of n states and the rates between them.
 mod tests;
 
+use exponential::Outcome;
 use matrix::BLOCK;
-use matrix::Outcome;
 use matrix::STATES;
 use refusal::Refusal;
 use refusal::Reply;
@@ -19,7 +19,7 @@ ghost use Rattle.matrix.specs.Matrix.{tabulate, table, cell, allTo};
 ghost use Rattle.matrix.specs.Arrays.{lead, Holds};
 ghost use Rattle.matrix.specs.Exponential.{scheme};
 ghost use Rattle.refusal.specs.Numbers.{replyNumber};
-ghost use Rattle.matrix.specs.Answers.{exponentialResult};
+ghost use Rattle.exponential.specs.Answers.{exponentialResult};
 ghost use Rattle.refusal.specs.Result.{number, laid};
 ghost use Rattle.interval.specs.Interval.{entry as entryOf, blockCell, propagator as propagatorOf, amountTo, applied, interval as intervalOf};
 
@@ -85,7 +85,7 @@ pub fn propagator(
     ensures { λ r. ⌜ exponentialResult r (lead (n + n) (now (p .exit))) ≡ propagatorOf scheme n rates duration ⌝ }
 {
     let block = block(rates, n, duration);
-    matrix::exponential(block, n + n, p)
+    exponential::exponential(block, n + n, p)
 }
 
 // Whether each input rate·duration is finite.

@@ -8,14 +8,13 @@ use borrow.Author.Tests.{lt-ltb, le-leb, lt-leb}
 use lib.Dec.{eqb, leb}
 use lib.ListN.{length}
 use lib.Ieee.{Float}
-use lib.Ieee.Scale.{finite}
 use Rattle.binary64.specs.Doubles.{nonnegative}
-use Rattle.matrix.specs.Matrix.{tabulate}
-use Rattle.binary64.specs.Lists.{all, amountsPass}
+use Rattle.binary64.specs.Lists.{amountsPass}
 use Rattle.refusal.specs.Result.{refused, done, andThen, unless}
 use Rattle.matrix.specs.Exponential.{Scheme}
 use Rattle.interval.specs.Interval.{states, interval}
-use Rattle.linear_pk.specs.LinearPk.{stateCount, sound, advance, concentration, concentrations, bind, passes, valuesPass, kernelOf, ratesFinite, new, padded, mostCompartments}
+use Rattle.concentration.specs.Concentrations.{concentrations as concentrationsOf}
+use Rattle.linear_pk.specs.LinearPk.{stateCount, sound, advance, concentrations, bind, passes, valuesPass, kernelOf, ratesFinite, new, padded, mostCompartments}
 use Rattle.linear_pk.specs.declared.kernel.LinearPk.{LinearPk}
 use Rattle.linear_pk.specs.declared.kernel.Absorption.{Absorption}
 
@@ -38,16 +37,9 @@ module _ (k : LinearPk) (x : List Float) where
   concentrations-unsound room h = rw h
 
   pub concentrations-sound :
-      (room : ℕ) {b c : Bool} {y : List Float} {j : LinearPk} → sound k ≡ done j → b ≡ amountsPass (stateCount k) x
-      → y ≡ tabulate (k .compartments) (concentration k x) → c ≡ all finite y
-      → concentrations k x room ≡ andThen (unless b 3 x) (λ _. andThen (unless (leb (k .compartments) room) 4 y) (λ _. unless c 23 y))
+      (room : ℕ) {j : LinearPk} → sound k ≡ done j → concentrations k x room ≡ concentrationsOf (stateCount k) (k .compartments) (k .depot) (k .volumes) x room
   unfolding concentrations
-  concentrations-sound room {b} {c} {y} h e f g = rw (h, ← e, ← f) (on b (leb (k .compartments) room))
-    where
-      on : (b l : Bool) → andThen (unless b 3 x) (λ _. andThen (unless l 4 y) (λ y. unless (all finite y) 23 y)) ≡ andThen (unless b 3 x) (λ _. andThen (unless l 4 y) (λ _. unless c 23 y))
-      on false l = refl
-      on true false = refl
-      on true true = rw g
+  concentrations-sound room h = rw h
 
   pub bind-unsound : {n : ℕ} → sound k ≡ refused n → bind k x ≡ refused n
   unfolding bind

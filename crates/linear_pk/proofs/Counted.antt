@@ -1,28 +1,14 @@
 -- What a kernel's count says of its states.
-use mathlib.Core.Path.{_≡_, refl, ap, sym, _∙_}
-use mathlib.Core.Bool.{Bool, true, false, _&&_, cond}
-use mathlib.Core.List.{List}
+use mathlib.Core.Path.{_≡_, refl, sym, _∙_}
+use mathlib.Core.Bool.{Bool, true, false}
 use Prim.Native.Nat.{ℕ, _+_, _<_, _≤_}
 use native.Mathlib.Omega.{arith}
-use borrow.Author.Tests.{ltb-true, leb-true, eqb-true}
-use lib.Dec.{ltb, leb, eqb}
-use lib.ListN.{length}
-use lib.Ieee.{Float}
+use borrow.Author.Tests.{ltb-true, leb-true}
+use lib.Dec.{ltb, leb}
 use Rattle.linear_pk.specs.declared.kernel.LinearPk.{LinearPk}
-use Rattle.binary64.specs.Lists.{amountsPass}
 use Rattle.refusal.specs.Result.{Result, refused, done, andThen, unless}
+pub use Rattle.concentration.proofs.Counts.{and-first, and-second, amounts-count}
 use Rattle.linear_pk.specs.LinearPk.{counted, stateCount, place, mostCompartments, sound, ratesFinite}
-
-pub and-first : (a b : Bool) → a && b ≡ true → a ≡ true
-and-first true b h = refl
-and-first false b h = h
-
-pub and-second : (a b : Bool) → a && b ≡ true → b ≡ true
-and-second true b h = h
-and-second false b h = absurd (no h)
-  where
-    no : false ≡ true → ⊥
-    no h = let z : _≡_ {A = ℕ} 0 1 = cc in omega arith
 
 module _ (k : LinearPk) where
   pub some-volume : counted k ≡ true → 0 < k .compartments
@@ -48,10 +34,6 @@ module _ (k : LinearPk) where
 
   pub some-states : (stateCount k ≡ 0 → ⊥) → counted k ≡ true
   some-states = decided (counted k) refl .1
-
--- amounts that pass are n in number
-pub amounts-count : (n : ℕ) (xs : List Float) → amountsPass n xs ≡ true → length xs ≡ n
-amounts-count n xs h = eqb-true (length xs) n (and-first (eqb (length xs) n) _ h)
 
 -- a sound kernel has its count
 pub sound-counted : (k : LinearPk) {j : LinearPk} → sound k ≡ done j → counted k ≡ true

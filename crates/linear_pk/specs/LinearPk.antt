@@ -1,5 +1,5 @@
--- 01, "Amounts and concentrations": the mammillary model (one to three compartments, an optional depot). The rates are those of the compartment
--- equations dA/dt = K·A + R (Gibaldi and Perrier, Pharmacokinetics, 1982, ch. 2); their solution over an interval is in `interval/specs/Interval.antt`.
+-- 01, "Amounts and concentrations": the mammillary model (one to three compartments, an optional depot). Its rates are in `mammillary/specs/Rates.antt`,
+-- their solution over an interval in `interval/specs/Interval.antt`, amounts by volume in `concentration/specs/Concentrations.antt`.
 use mathlib.Core.Bool.{Bool, true, false, _&&_, cond}
 use mathlib.Core.List.{List}
 use Prim.Native.Nat.{ℕ, zero, suc, _+_, _-_, _*_, _/_, _%_}
@@ -13,6 +13,9 @@ use Rattle.binary64.specs.Lists.{all, amountsPass}
 use Rattle.refusal.specs.Result.{Result, andThen, unless}
 use Rattle.matrix.specs.Exponential.{Scheme}
 use Rattle.interval.specs.Interval.{states, entry, interval}
+pub use Rattle.mammillary.specs.Rates.{place, centralRate, peripheralRate, paddedCell, paddedRate}
+unfoldable pub use Rattle.mammillary.specs.Rates.{diagonalTo, rateOf, padded}
+use Rattle.concentration.specs.Concentrations.{concentrations as concentrationsOf}
 use Rattle.linear_pk.specs.declared.kernel.Absorption.{Absorption}
 use Rattle.linear_pk.specs.declared.kernel.Absorption.the-variants.{Absent, FirstOrder}
 use Rattle.linear_pk.specs.declared.kernel.LinearPk.{LinearPk}
@@ -22,7 +25,7 @@ use Rattle.linear_pk.specs.declared.bind.BoundLinearPk.{BoundLinearPk}
 abbrev pub mostCompartments : ℕ
 mostCompartments = 3
 
--- ---- the matrix of rates
+-- ---- the absorption
 abbrev pub depotOf : Absorption → Bool
 depotOf Absent = false
 depotOf (FirstOrder k) = true
@@ -32,54 +35,16 @@ abbrev pub absorbed : Absorption → Float
 absorbed Absent = plusZero
 absorbed (FirstOrder k) = k
 
--- the place of the central state: behind the depot, if there is one
-abbrev pub place : Bool → ℕ
-place depot = cond depot 1 0
-
 abbrev pub centralOf : Absorption → ℕ
 centralOf a = place (depotOf a)
 
--- −CL/V0, then minus q/V0 for each of the first k exchanges in turn
-unfoldable pub diagonalTo : Float → List Float → List Float → ℕ → Float
-diagonalTo cl vs qs zero = div binary64 (neg cl) (cell vs 0)
-diagonalTo cl vs qs (suc e) = sub binary64 (diagonalTo cl vs qs e) (div binary64 (cell qs e) (cell vs 0))
-
--- to central, at place c, from the compartment j: its own diagonal, or q/Vj of a peripheral
-abbrev pub centralRate : Float → List Float → List Float → ℕ → ℕ → Float
-centralRate cl vs qs c j = cond (eqb j c) (diagonalTo cl vs qs (length qs)) (div binary64 (cell qs (j - c - 1)) (cell vs (j - c)))
-
--- to the peripheral i: q/V0 from central, −q/Vi from itself
-abbrev pub peripheralRate : List Float → List Float → ℕ → ℕ → ℕ → Float
-peripheralRate vs qs c i j =
-    cond (eqb j c) (div binary64 (cell qs (i - c - 1)) (cell vs 0))
-    (cond (eqb j i) (div binary64 (neg (cell qs (i - c - 1))) (cell vs (i - c))) plusZero)
-
--- the rate to state i from state j; the depot gives k to central
-unfoldable pub rateOf : Float → List Float → List Float → Absorption → ℕ → ℕ → Float
-unfolding diagonalTo
-rateOf cl vs qs a i j =
-    let c = centralOf a in
-    cond (ltb i c) (cond (ltb j c) (neg (absorbed a)) plusZero)
-    (cond (eqb i c) (cond (ltb j c) (absorbed a) (centralRate cl vs qs c j)) (peripheralRate vs qs c i j))
-
 -- ---- the kernel as a value: places past the volumes and outside the n by n part hold +0
-abbrev pub paddedCell : List Float → ℕ → Float
-paddedCell xs i = cond (ltb i (length xs)) (cell xs i) plusZero
-
--- the first xs, then +0, w in all
-unfoldable pub padded : ℕ → List Float → List Float
-padded w xs = tabulate w (paddedCell xs)
-
--- the rate at place c of the cells, in a matrix of n states
-abbrev pub paddedRate : Float → List Float → List Float → Absorption → ℕ → ℕ → Float
-paddedRate cl vs qs a n c = cond (ltb (c / states) n && ltb (c % states) n) (rateOf cl vs qs a (c / states) (c % states)) plusZero
-
 unfoldable pub kernelOf : Float → List Float → List Float → Absorption → LinearPk
 kernelOf cl vs qs a = record {
   compartments = length vs;
   depot = depotOf a;
   volumes = padded mostCompartments vs;
-  rates = tabulate (states * states) (paddedRate cl vs qs a (length vs + centralOf a));
+  rates = tabulate (states * states) (paddedRate cl vs qs (depotOf a) (absorbed a) (length vs + centralOf a));
 }
 
 -- the kernel of a refusal
@@ -123,16 +88,9 @@ advance s k x r d room =
     (λ _. andThen (unless (leb n room) 4 x) (λ _. interval s n (k .rates) x r d)))
 
 -- ---- `concentrations`: amount by volume, the depot skipped
-abbrev pub concentration : LinearPk → List Float → ℕ → Float
-concentration k x i = div binary64 (cell x (i + place (k .depot))) (cell (k .volumes) i)
-
 unfoldable pub concentrations : LinearPk → List Float → ℕ → Result (List Float)
 concentrations k x room =
-    let v = k .compartments in
-    andThen (sound k)
-    (λ _. andThen (unless (amountsPass (stateCount k) x) 3 x)
-    (λ _. andThen (unless (leb v room) 4 (tabulate v (concentration k x)))
-    (λ y. unless (all finite y) 23 y)))
+    andThen (sound k) (λ _. concentrationsOf (stateCount k) (k .compartments) (k .depot) (k .volumes) x room)
 
 -- ---- `bind`: initial amounts bound to a kernel
 abbrev pub noBound : BoundLinearPk

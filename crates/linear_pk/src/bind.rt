@@ -26,7 +26,7 @@ fn padded_amounts(amounts: &[f64]) -> [f64; STATES]
 {
     let mut list = [0.0f64; STATES];
     for i in 0..STATES {
-        list[i] = kernel::padded_cell(amounts, i);
+        list[i] = mammillary::padded_cell(amounts, i);
     }
     list
 }

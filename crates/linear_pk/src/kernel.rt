@@ -1,21 +1,15 @@
 // The kernel: a matrix of rates, the volumes, and whether there is a depot.
 use interval::CELLS;
 use interval::Test;
-use matrix::STATES;
+use mammillary::VOLUMES;
 use refusal::Refusal;
 use refusal::Reply;
 ghost use mathlib.Core.Path.{_≡_};
-ghost use Prim.Native.Nat.{_+_, _≤_, _<_};
+ghost use Prim.Native.Nat.{_+_, _≤_};
 ghost use lib.ListN.{length};
-ghost use Rattle.linear_pk.specs.LinearPk.{centralOf, absorbed as absorbedOf, diagonalTo, centralRate, peripheralRate, rateOf, paddedRate, paddedCell, padded, stateCount, depotOf, valuesPass, ratesFinite, sound, kernelOf, noKernel, new as newOf};
-ghost use Rattle.matrix.specs.Matrix.{tabulate, allTo};
-ghost use Rattle.interval.specs.Interval.{entry};
+ghost use Rattle.linear_pk.specs.LinearPk.{absorbed as absorbedOf, stateCount, depotOf, valuesPass, ratesFinite, sound, kernelOf, noKernel, new as newOf};
 ghost use Rattle.refusal.specs.Result.{valueOr};
 ghost use Rattle.refusal.specs.Numbers.{resultOf};
-ghost use lib.Ieee.Scale.{finite};
-
-// Volumes that a kernel can hold.
-pub const VOLUMES: usize = STATES - 1;
 
 // First-order absorption from a depot, or none.
 pub enum Absorption {
@@ -47,88 +41,6 @@ impl LinearPk {
     }
 }
 
-// The place of the central state.
-fn central(absorption: Absorption) -> usize
-    ensures { λ r. ⌜ (r ≡ centralOf absorption) × (r ≤ 1) ⌝ }
-{
-    match absorption {
-        Absorption::Absent => 0,
-        Absorption::FirstOrder(_) => 1,
-    }
-}
-
-// −CL/V0, then minus q/V0 for each exchange in turn.
-fn diagonal(clearance: f64, volumes: &[f64], exchange: &[f64]) -> f64
-    requires { ⌜ 0 < length (now volumes) ⌝ }
-    ensures { λ r. ⌜ r ≡ diagonalTo clearance (now (volumes .entry)) (now (exchange .entry)) (length (now (exchange .entry))) ⌝ }
-{
-    let mut sum = -clearance / volumes[0];
-    let mut e = 0usize;
-    while e < exchange.len() {
-        sum = sum - exchange[e] / volumes[0];
-        e += 1;
-    }
-    sum
-}
-
-// The row of the central state: from state j, where c is the central state's place.
-fn central_rate(clearance: f64, volumes: &[f64], exchange: &[f64], c: usize, j: usize) -> f64
-    requires { ⌜ (length (now exchange) + 1 ≡ length (now volumes)) × (c ≤ j) × (j < length (now volumes) + c) ⌝ }
-    ensures { λ r. ⌜ r ≡ centralRate clearance (now (volumes .entry)) (now (exchange .entry)) c j ⌝ }
-{
-    if j == c {
-        return diagonal(clearance, volumes, exchange);
-    }
-    let v = j - c;
-    let e = v - 1;
-    exchange[e] / volumes[v]
-}
-
-// The row of the peripheral state i.
-fn peripheral_rate(volumes: &[f64], exchange: &[f64], c: usize, i: usize, j: usize) -> f64
-    requires { ⌜ (length (now exchange) + 1 ≡ length (now volumes)) × (c < i) × (i < length (now volumes) + c) ⌝ }
-    ensures { λ r. ⌜ r ≡ peripheralRate (now (volumes .entry)) (now (exchange .entry)) c i j ⌝ }
-{
-    let v = i - c;
-    let e = v - 1;
-    if j == c {
-        return exchange[e] / volumes[0];
-    }
-    if j == i {
-        -exchange[e] / volumes[v]
-    } else {
-        0.0
-    }
-}
-
-// The rate from state j to state i.
-fn rate(
-    clearance: f64,
-    volumes: &[f64],
-    exchange: &[f64],
-    absorption: Absorption,
-    i: usize,
-    j: usize,
-) -> f64
-    requires { ⌜ (length (now exchange) + 1 ≡ length (now volumes)) × (i < length (now volumes) + centralOf absorption) × (j < length (now volumes) + centralOf absorption) ⌝ }
-    ensures { λ r. ⌜ r ≡ rateOf clearance (now (volumes .entry)) (now (exchange .entry)) absorption i j ⌝ }
-{
-    let c = central(absorption);
-    if i < c {
-        if j < c {
-            return -absorbed(absorption);
-        }
-        return 0.0;
-    }
-    if i == c {
-        if j < c {
-            return absorbed(absorption);
-        }
-        return central_rate(clearance, volumes, exchange, c, j);
-    }
-    peripheral_rate(volumes, exchange, c, i, j)
-}
-
 // The absorption's rate; 0 stands for none.
 fn absorbed(absorption: Absorption) -> f64
     ensures { λ r. ⌜ r ≡ absorbedOf absorption ⌝ }
@@ -137,62 +49,6 @@ fn absorbed(absorption: Absorption) -> f64
         Absorption::Absent => 0.0,
         Absorption::FirstOrder(k) => k,
     }
-}
-
-// The rate at place c of a kernel's cells: +0 outside the n by n part.
-fn padded_rate(
-    clearance: f64,
-    volumes: &[f64],
-    exchange: &[f64],
-    absorption: Absorption,
-    n: usize,
-    c: usize,
-) -> f64
-    requires { ⌜ (length (now exchange) + 1 ≡ length (now volumes)) × (n ≡ length (now volumes) + centralOf absorption) ⌝ }
-    ensures { λ r. ⌜ r ≡ paddedRate clearance (now (volumes .entry)) (now (exchange .entry)) absorption n c ⌝ }
-{
-    let i = c / STATES;
-    let j = c % STATES;
-    if i < n {
-        if j < n {
-            return rate(clearance, volumes, exchange, absorption, i, j);
-        }
-    }
-    0.0
-}
-
-fn rates(
-    clearance: f64,
-    volumes: &[f64],
-    exchange: &[f64],
-    absorption: Absorption,
-    n: usize,
-) -> [f64; CELLS]
-    requires { ⌜ (length (now exchange) + 1 ≡ length (now volumes)) × (n ≡ length (now volumes) + centralOf absorption) ⌝ }
-    ensures { λ r. ⌜ r ≡ tabulate 16 (paddedRate clearance (now (volumes .entry)) (now (exchange .entry)) absorption n) ⌝ }
-{
-    let mut list = [0.0f64; CELLS];
-    for c in 0..CELLS {
-        list[c] = padded_rate(clearance, volumes, exchange, absorption, n, c);
-    }
-    list
-}
-
-// Entry i of a list, +0 past its end.
-pub fn padded_cell(xs: &[f64], i: usize) -> f64
-    ensures { λ r. ⌜ r ≡ paddedCell (now (xs .entry)) i ⌝ }
-{
-    if i < xs.len() { xs[i] } else { 0.0 }
-}
-
-fn padded_volumes(volumes: &[f64]) -> [f64; VOLUMES]
-    ensures { λ r. ⌜ r ≡ padded 3 (now (volumes .entry)) ⌝ }
-{
-    let mut list = [0.0f64; VOLUMES];
-    for i in 0..VOLUMES {
-        list[i] = padded_cell(volumes, i);
-    }
-    list
 }
 
 // Whether the values pass, of 1 to 3 volumes and one exchange fewer.
@@ -205,27 +61,11 @@ fn values_pass(clearance: f64, volumes: &[f64], exchange: &[f64], absorption: Ab
                 & binary64::is_nonnegative(absorbed(absorption))))
 }
 
-fn row_finite(rates: [f64; CELLS], n: usize, i: usize) -> bool
-    requires { ⌜ (i < 4) × (n ≤ 4) ⌝ }
-    ensures { λ r. ⌜ r ≡ allTo (λ j. finite (entry rates i j)) n ⌝ }
-{
-    let mut ok = true;
-    for j in 0..n {
-        ok = ok & binary64::is_finite(interval::entry(rates, i, j));
-    }
-    ok
-}
-
 fn rates_finite(kernel: LinearPk) -> bool
     ensures { λ r. ⌜ r ≡ ratesFinite kernel ⌝ }
 {
-    let n = kernel.state_count();
     let rates = kernel.rates;
-    let mut ok = true;
-    for i in 0..n {
-        ok = ok & row_finite(rates, n, i);
-    }
-    ok
+    mammillary::rates_finite(rates, kernel.state_count())
 }
 
 // Whether `new` can have made this kernel: 1 for its count, 2 for a rate that is not finite.
@@ -287,10 +127,10 @@ fn kernel_of(clearance: f64, volumes: &[f64], exchange: &[f64], absorption: Abso
     ensures { λ r. ⌜ r ≡ kernelOf clearance (now (volumes .entry)) (now (exchange .entry)) absorption ⌝ }
 {
     let count = volumes.len();
-    let n = count + central(absorption);
-    let cells = rates(clearance, volumes, exchange, absorption, n);
-    let list = padded_volumes(volumes);
     let depot = has_depot(absorption);
+    let n = count + mammillary::central(depot);
+    let cells = mammillary::rates(clearance, volumes, exchange, depot, absorbed(absorption), n);
+    let list = mammillary::padded_volumes(volumes);
     LinearPk {
         compartments: count,
         depot,

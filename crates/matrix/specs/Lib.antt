@@ -1,4 +1,3 @@
 pub mod Matrix
 pub mod Exponential
-pub mod Answers
 pub mod Arrays

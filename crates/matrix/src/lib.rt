@@ -1,9 +1,5 @@
-// Square matrices in arrays of a fixed width, and their exponential.
-mod row;
-mod scaling;
-
-pub use scaling::Outcome;
-pub use scaling::exponential;
+// Square matrices in arrays of a fixed width.
+pub mod row;
 
 // The most states of a model, and the width of the block that the exponential is taken of.
 pub const STATES: usize = 4;

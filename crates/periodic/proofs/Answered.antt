@@ -1,28 +1,23 @@
 -- What a closed cycle answers: the tests ahead of it one after the other, its own chain, and the slices.
-use mathlib.Core.Path.{_≡_, refl, sym, ap, _∙_, subst}
+use mathlib.Core.Path.{_≡_, sym, ap, _∙_, subst}
 use mathlib.Core.Bool.{Bool, true, false, _&&_}
-use mathlib.Core.List.{List, [], _++_}
-use mathlib.Core.Option.{Option, some, none}
+use mathlib.Core.List.{List, _++_}
 use Prim.Native.Nat.{ℕ, _≤_}
-use native.Mathlib.Omega.{arith}
 use lib.Dec.{leb}
 use lib.ListN.{length, take, drop, length-map}
 use lib.Ieee.{Float}
 use Rattle.binary64.specs.Doubles.{plusZero}
-use Rattle.refusal.specs.Result.{Result, refused, done}
+use Rattle.refusal.specs.Result.{refused, done}
 use Rattle.linear_pk.specs.LinearPk.{sound, stateCount}
 use Rattle.linear_pk.specs.declared.kernel.LinearPk.{LinearPk}
 use Rattle.protocol.specs.Entry.{mostSamples}
 use Rattle.protocol.specs.Execute.{Propagator}
-use Rattle.protocol.specs.Prepare.{prepare}
 use Rattle.protocol.specs.declared.Event.{Event}
 use Rattle.protocol.specs.declared.Window.{Window}
-use Rattle.preparation.specs.Preparation.{numberOf}
-use Rattle.preparation.proofs.Tests.{prepare-passes}
 use Rattle.simulation.specs.KernelRun.{propagatorOf}
 use Rattle.cycle.specs.declared.SteadyStateTolerance.{SteadyStateTolerance}
-use Rattle.cycle.specs.Fold.{mostCycleEvents, fold}
-use Rattle.cycle.specs.Closed.{Timed, stopped, got, then, untimed, unlessFails, unlessNumber, tolerancePasses, divided, ready, homogeneous, zeroed, solution, Solved, accepted, closed, steadyReplyOf, answerAtExit}
+use Rattle.cycle.specs.Fold.{mostCycleEvents}
+use Rattle.cycle.specs.Closed.{Timed, stopped, got, then, unlessFails, ready, homogeneous, zeroed, solution, Solved, accepted, closed, steadyReplyOf, answerAtExit}
 use Rattle.cycle.specs.ClosedCycle.{closedNumbers}
 use Rattle.cycle.proofs.Folds.{zeroed-passes}
 use Rattle.cycle.proofs.InnerRuns.{Ready, ready-hands}
@@ -51,34 +46,6 @@ solves s a e p q r = record {
 
 pub answers-as : {o o' : Timed Solved} {r : SteadyReply} {a e a' e' : List Float} → o ≡ o' → Answers o r a e a' e' → Answers o' r a e a' e'
 answers-as {o} {o'} {r} {a} {e} {a'} {e'} p h = subst (λ (x : Timed Solved). Answers x r a e a' e') p h
-
--- ---- ahead of the runs
--- a number above 0 is that of the preparation
-number-some : (o : Option ℕ) {c : ℕ} → 1 ≤ c → c ≡ numberOf o → some c ≡ o
-number-some none l e = absurd (no l e)
-  where
-    no : {c : ℕ} → 1 ≤ c → c ≡ 0 → ⊥
-    no l e = omega arith
-number-some (some k) l e = ap some e
-
-module _ (n : ℕ) (w : Window) (ss : List Float) (es : List Event) (tol : SteadyStateTolerance) where
-  pub tolerance-stops : tolerancePasses tol ≡ false → stopped 19 plusZero ≡ ready n w ss es tol
-  unfolding ready
-  tolerance-stops h = rw h
-
-  module _ (h : tolerancePasses tol ≡ true) where
-    pub fold-stops : {c : ℕ} → refused c ≡ fold n w ss es → stopped c plusZero ≡ ready n w ss es tol
-    unfolding ready
-    fold-stops e = rw (h, ← e)
-
-    module _ {fs : List Event} (e : done fs ≡ fold n w ss es) where
-      pub prepare-stops : {c : ℕ} → 1 ≤ c → c ≡ numberOf (prepare n (divided n w) [] fs) → stopped c plusZero ≡ ready n w ss es tol
-      unfolding ready
-      prepare-stops l q = rw (h, ← e, ← number-some (prepare n (divided n w) [] fs) l q)
-
-      pub ready-got : 0 ≡ numberOf (prepare n (divided n w) [] fs) → got fs ≡ ready n w ss es tol
-      unfolding ready
-      ready-got q = rw (h, ← e, prepare-passes n (divided n w) [] fs q)
 
 -- ---- what the runs ask, of the folded list and of the zeroed one
 module _ (k : LinearPk) (n : ℕ) (w : Window) (ss : List Float) (es : List Event) (tol : SteadyStateTolerance) (c : n ≡ stateCount k) (s : n ≤ 4) {fs : List Event} (r : got fs ≡ ready n w ss es tol)

@@ -1,5 +1,4 @@
 // `periodic_steady_state`: the closed cycle of a list, from the tests ahead of it to the amounts, the residuals and the greatest scaled one.
-use carryover::Folding;
 use cycle::SteadyStateTolerance;
 use events::EVENTS;
 use linear_pk::LinearPk;
@@ -16,11 +15,11 @@ ghost use Prim.Native.Nat.{_≤_};
 ghost use lib.Dec.{leb};
 ghost use lib.ListN.{length, take, drop};
 ghost use Rattle.binary64.specs.Doubles.{plusZero};
-ghost use Rattle.refusal.specs.Numbers.{refusalNumber, resultOf};
+ghost use Rattle.refusal.specs.Numbers.{refusalNumber};
 ghost use Rattle.linear_pk.specs.LinearPk.{stateCount};
 ghost use Rattle.events.specs.Packed.{packed};
 ghost use Rattle.simulation.specs.KernelRun.{propagatorOf};
-ghost use Rattle.cycle.specs.Closed.{then, untimed, unlessFails, tolerancePasses, ready as readyOf, homogeneous, solution, accepted, closed as closedOf, steadyReplyOf, answerAtExit};
+ghost use Rattle.cycle.specs.Closed.{then, unlessFails, homogeneous, solution, accepted, closed as closedOf, steadyReplyOf, answerAtExit};
 ghost use Rattle.cycle_run.specs.Ends.{Runs};
 ghost use Rattle.periodic.specs.Entry.{steadyRoom, steadyEntry, steadyReply};
 ghost use Rattle.periodic.specs.Replies.{Answers};
@@ -34,66 +33,6 @@ pub enum SteadyReply {
     Refused { number: u64, time: f64 },
     // The greatest scaled residual.
     Solved { maximum: f64 },
-}
-
-// Absolute finite and above 0, relative finite and not below 0.
-fn tolerance_passes(tolerance: SteadyStateTolerance) -> bool
-    ensures { λ r. ⌜ r ≡ tolerancePasses tolerance ⌝ }
-{
-    binary64::is_positive(tolerance.absolute) & binary64::is_nonnegative(tolerance.relative)
-}
-
-// 19; the fold; the preparation of its list without samples, on the divided budgets: the folded list in the two arrays.
-fn ready(
-    n: usize,
-    window: Window,
-    samples: &[f64],
-    tolerance: SteadyStateTolerance,
-    reals: &[[f64; 3]; EVENTS],
-    words: &[[usize; 4]; EVENTS],
-    count: usize,
-    out_reals: &mut [[f64; 3]; EVENTS],
-    out_words: &mut [[usize; 4]; EVENTS],
-) -> Folding
-    requires { ⌜ (n ≤ 4) × (count ≤ 64) × (length (now «out_reals») ≡ 192) × (length (now «out_words») ≡ 192) ⌝ }
-    ensures { λ r. ⌜ untimed (resultOf (r .reply) (packed (now («out_reals» .exit)) (now («out_words» .exit)) (r .count)))
-        ≡ readyOf n window (now (samples .entry)) (packed (now (reals .entry)) (now (words .entry)) count) tolerance ⌝ }
-    ensures { λ r. ⌜ r .count ≤ 192 ⌝ }
-{
-    if !tolerance_passes(tolerance) {
-        return carryover::refused(Refusal::Tolerance);
-    }
-    let folding = steady_state::folded(
-        n,
-        window,
-        samples,
-        reals,
-        words,
-        count,
-        out_reals,
-        out_words,
-    );
-    let reply = folding.reply;
-    match reply {
-        Reply::Refused(refusal) => carryover::refused(refusal),
-        Reply::Done => {
-            let places = folding.count;
-            let none = [0.0f64; 1];
-            let budgets = cycle_run::divided(n, window);
-            let prepared = preparation::prepared(
-                n,
-                budgets,
-                &none[..0],
-                out_reals,
-                out_words,
-                places,
-            );
-            match prepared {
-                Reply::Refused(refusal) => carryover::refused(refusal),
-                Reply::Done => folding,
-            }
-        }
-    }
 }
 
 fn refused(refusal: Refusal) -> SteadyReply
@@ -114,7 +53,7 @@ fn lay(n: usize, values: [f64; STATES], out: &mut [f64])
 }
 
 // The closed cycle of a list that was folded and prepared: 4, the candidate, its acceptance. Nothing is written ahead of the last refusal.
-fn solved(
+fn execute_prepared_periodic_steady_state(
     kernel: LinearPk,
     n: usize,
     window: Window,
@@ -188,7 +127,7 @@ fn closed(
 {
     let mut folded_reals = cycle_run::real_cells();
     let mut folded_words = cycle_run::word_cells();
-    let folding = ready(
+    let folding = cycle_preparation::prepare_periodic_steady_state(
         n,
         window,
         samples,
@@ -204,7 +143,7 @@ fn closed(
         Reply::Refused(refusal) => refused(refusal),
         Reply::Done => {
             let places = folding.count;
-            solved(
+            execute_prepared_periodic_steady_state(
                 kernel,
                 n,
                 window,

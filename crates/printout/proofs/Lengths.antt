@@ -3,50 +3,16 @@ use mathlib.Core.Path.{_≡_, refl, sym, ap, ap₂, _∙_}
 use mathlib.Core.Bool.{Bool, true, false, cond}
 use mathlib.Core.Logic.{⊎-elim}
 use mathlib.Core.List.{List, [], _∷_, _++_, append-nil, append-assoc}
-use Prim.Native.Nat.{ℕ, zero, suc, _+_, _-_, _*_, _/_, _≤_, _<_}
+use Prim.Native.Nat.{ℕ, zero, suc, _+_, _-_, _*_, _≤_, _<_}
 use native.Mathlib.Nat.{suc-mul, mul-le-mul-right, le-of-suc-le-suc, eq-or-lt-of-le}
-use native.Mathlib.Numerals.{add-one, sub-one}
+use native.Mathlib.Numerals.{add-one}
 use native.Mathlib.Omega.{arith}
-use lib.Dec.{eqb, ltb}
-use borrow.Author.Tests.{lt-ltb, le-ltb}
+use lib.Dec.{eqb}
 use lib.ListN.{length, getD, take, drop, length-append, length-drop}
 use lib.Seq.{take-suc, length-take-le}
 use lib.Ieee.{Float, nan}
-use Rattle.printout.specs.Printout.{places, decimal, hexadecimal, bitsOf, doubleText, sideText, amountsText, rowLine, rowAt, rowLines, headLine, orderedLine, rowsText, refusedText, runText, sideLength, rowLength, rowsLength, textLength}
-use Rattle.printout.proofs.Writing.{digits-length}
-
-pub decimal-length : (w : ℕ) → length (decimal w) ≡ places 19 w
-unfolding decimal
-decimal-length w = digits-length 10 (places 19 w) w
-
-pub double-length : (x : Float) → length (doubleText x) ≡ 16
-unfolding doubleText hexadecimal
-double-length x = digits-length 16 16 (bitsOf x)
-
--- at most one more than the most
-pub places-most : (m w : ℕ) → places m w ≤ m + 1
-unfolding places
-places-most zero w = omega arith
-places-most (suc m) w = go m (ltb w 10) (places-most m (w / 10))
-  where
-    go : (m : ℕ) {k : ℕ} (t : Bool) → k ≤ m + 1 → cond t 1 (suc k) ≤ suc m + 1
-    go m true h = omega arith
-    go m false h = omega arith
-
-pub places-end : (m w : ℕ) → m ≤ 0 → places m w ≡ 1
-unfolding places
-places-end zero w h = refl
-places-end (suc m) w h = absurd (omega arith)
-
-pub places-last : (m w : ℕ) → w < 10 → places m w ≡ 1
-unfolding places
-places-last zero w h = refl
-places-last (suc m) w h = rw (lt-ltb w 10 h)
-
-pub places-more : (m w : ℕ) → 10 ≤ w → 0 < m → places m w ≡ suc (places (m - 1) (w / 10))
-unfolding places
-places-more zero w h l = absurd (omega arith)
-places-more (suc m) w h l = rw (le-ltb w 10 h, sub-one (suc m))
+use Rattle.printout.specs.Printout.{places, decimal, doubleText, sideText, amountsText, rowLine, rowAt, rowLines, headLine, orderedLine, rowsText, refusedText, runText, sideLength, rowLength, rowsLength, textLength}
+pub use Rattle.number_text.proofs.Counts.{decimal-length, double-length, places-most, places-end, places-last, places-more}
 
 pub side-length : (s : ℕ) → length (sideText s) ≡ sideLength s
 unfolding sideText

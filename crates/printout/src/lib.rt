@@ -1,12 +1,10 @@
 // The bytes of a run's printout, into lent cells.
-mod number;
 mod row;
 
-pub use number::bits;
-pub use number::places;
-pub use number::put_bits;
-use number::put_decimal;
-pub use number::put_text;
+use number_text::places;
+use number_text::put_bits;
+use number_text::put_decimal;
+use number_text::put_text;
 use row::put_rows;
 use row::rows_length;
 ghost use mathlib.Core.Path.{_≡_};

@@ -1,6 +1,6 @@
 // Rows as lines.
-use crate::number::put_bits;
-use crate::number::put_text;
+use number_text::put_bits;
+use number_text::put_text;
 ghost use mathlib.Core.Path.{_≡_};
 ghost use mathlib.Core.List.{_∷_};
 ghost use Prim.Native.Nat.{_+_, _*_, _≤_};

@@ -1,8 +1,8 @@
 // The bytes of a closed cycle's printout, into lent cells.
-use printout::places;
-use printout::put_bits;
+use number_text::places;
+use number_text::put_bits;
+use number_text::put_text;
 use printout::put_refused;
-use printout::put_text;
 ghost use mathlib.Core.Path.{_≡_};
 ghost use Prim.Native.Nat.{_+_, _*_, _≤_};
 ghost use lib.ListN.{length, take};

@@ -26,6 +26,7 @@ use Rattle.printout.specs.Printout.{refusedText}
 use Rattle.cycle.specs.Elimination.{System, systemOf, eliminateTo, leastPivot, solveTo, solve}
 use Rattle.cycle.specs.Closed.{Timed, stopped, got, then, untimed, columnsTo, lastOf, solution, residualsOf, Solved, closed, SteadyReply, steadyReplyOf, answerAtExit}
 use Rattle.cycle.specs.ClosedCycle.{closedNumbers, Yields, ClosedCycle}
+use Rattle.cycle.proofs.Candidates.{yields-solution}
 use Rattle.cycle.proofs.Theorems.{solve-sized, closed-cycle}
 use Rattle.cycle.proofs.Results.{no-answer, same-answer}
 use Rattle.rig.specs.Rig.{Printout, doublesOf}
@@ -82,7 +83,7 @@ steady-kept k w ss es h = on (closed (propagatorOf k) (stateCount k) (windowOf w
         let y = facts .needs s e in
         let a = facts .accepts (s .amounts) y .0 (s, e) in
         record {
-          amounts = solution-sized (propagatorOf k) (stateCount k) (windowOf w) (y .folded) (s .amounts) (y .solves);
+          amounts = solution-sized (propagatorOf k) (stateCount k) (windowOf w) (y .folded) (s .amounts) (yields-solution (propagatorOf k) (stateCount k) (windowOf w) (doublesOf ss) (eventsOf es) (toleranceOf w) (s .amounts) y);
           residuals = ap length (facts .answer (s .amounts) y a s e .residuals) ∙ tabulate-length _ (stateCount k);
         }
 

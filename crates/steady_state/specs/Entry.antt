@@ -6,8 +6,8 @@ use Prim.Native.Nat.{ℕ, _+_, _≤_}
 use lib.Dec.{leb}
 use lib.ListN.{length, getD, take}
 use lib.Ieee.{Float}
-use Rattle.refusal.specs.Result.{Result, andThen, unless, number, valueOr}
-use Rattle.refusal.specs.Numbers.{replyNumber, resultOf}
+use Rattle.refusal.specs.Result.{Result, andThen, unless, valueOr}
+use Rattle.refusal.specs.Numbers.{resultOf}
 use Rattle.matrix.specs.Matrix.{tabulate}
 use Rattle.linear_pk.specs.LinearPk.{sound, stateCount}
 use Rattle.linear_pk.specs.declared.kernel.LinearPk.{LinearPk}
@@ -39,16 +39,20 @@ foldEntry k w ss es count =
 unfoldable pub filled : List Event → List Listed
 filled es = tabulate 192 (λ i. record { event = getD es i noEvent })
 
--- what the entry answers: its number, 0 where it folds; how many events; the places
+abbrev pub eventIn : Listed → Event
+eventIn l = l .event
+
+-- what the entry answers: the number or the list, how many events, the places
 pub record Answer : Type 0 where
-  pub number : ℕ
+  pub result : Result (List Event)
   pub count : ℕ
   pub places : List Listed
 
 -- at a refusal no event
 unfoldable pub answerOf : Result (List Event) → Answer
 unfolding filled
-answerOf o = record { number = number o; count = length (valueOr o []); places = filled (valueOr o []) }
+answerOf o = record { result = o; count = length (valueOr o []); places = filled (valueOr o []) }
 
+-- the list stands in the first places
 abbrev pub told : FoldedCycle → Answer
-told r = record { number = replyNumber (r .reply); count = r .count; places = r .events }
+told r = record { result = resultOf (r .reply) (take (r .count) (map eventIn (r .events))); count = r .count; places = r .events }

@@ -1,11 +1,9 @@
 -- `candidate::eliminated` meets its contract.
-use mathlib.Core.Path.{_≡_, ap, _∙_}
-use mathlib.Core.List.{List}
+use mathlib.Core.Path.{ap, _∙_}
 use borrow.Author.Needs.{needs}
 use lib.ListN.{take}
-use lib.Ieee.{Float, ofBits}
-use Rattle.refusal.specs.Result.{Result}
-use Rattle.cycle.specs.Elimination.{System, solve}
+use lib.Ieee.{ofBits}
+use Rattle.cycle.specs.Elimination.{solve}
 use Rattle.cycle.specs.Closed.{untimed}
 use Rattle.candidate.proofs.Chain.{system-is}
 use Rattle.candidate.proofs.eliminated.Statement.{statement}

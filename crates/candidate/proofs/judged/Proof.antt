@@ -1,5 +1,5 @@
 -- `candidate::judged` meets its contract.
-use mathlib.Core.Path.{_≡_, refl, ap, _∙_}
+use mathlib.Core.Path.{ap}
 use borrow.Author.Needs.{needs}
 use lib.ListN.{take}
 use lib.Ieee.{Float, ofBits}

@@ -1,7 +1,6 @@
 -- `candidate::solution` meets its contract.
-use mathlib.Core.Path.{_≡_, sym, _∙_}
+use mathlib.Core.Path.{sym, _∙_}
 use borrow.Author.Needs.{needs}
-use lib.ListN.{take}
 use lib.Ieee.{ofBits}
 use Rattle.events.specs.Packed.{packed}
 use Rattle.simulation.specs.KernelRun.{propagatorOf}

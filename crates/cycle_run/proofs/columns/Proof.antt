@@ -1,14 +1,12 @@
 -- `cycle_run::columns` meets its contract. The invariant: the first j columns are stored.
-use mathlib.Core.Path.{_≡_, refl, sym, _∙_, ap, subst}
-use mathlib.Core.List.{List}
+use mathlib.Core.Path.{_≡_}
 use borrow.Author.Needs.{needs}
 use native.Mathlib.Omega.{arith}
-use Prim.Native.Nat.{ℕ, _≤_, _-_}
+use Prim.Native.Nat.{_≤_, _-_}
 use lib.ListN.{length, length-set}
 use Rattle.events.specs.Packed.{packed}
-use Rattle.protocol.specs.declared.Event.{Event}
 use Rattle.simulation.specs.KernelRun.{propagatorOf}
-use Rattle.cycle.specs.Closed.{got, columnsTo, homogeneous, lastOf}
+use Rattle.cycle.specs.Closed.{got, columnsTo, homogeneous}
 use Rattle.cycle_run.specs.Ends.{columnsOf}
 use Rattle.cycle_run.proofs.UnitRuns.{unit-front, columns-none, columns-more, columns-stop, columns-all}
 use Rattle.cycle_run.proofs.columns.Statement.{statement}

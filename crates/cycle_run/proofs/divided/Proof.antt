@@ -1,5 +1,5 @@
 -- `cycle_run::divided` meets its contract.
-use mathlib.Core.Path.{_≡_, refl}
+use mathlib.Core.Path.{refl}
 use borrow.Author.Needs.{needs}
 use Rattle.cycle.specs.Closed.{divided}
 use Rattle.cycle_run.proofs.divided.Statement.{statement}

@@ -1,5 +1,5 @@
 -- `cycle_run::homogeneous` meets its contract. The invariant: the first i rows are zeroed.
-use mathlib.Core.Path.{_≡_, sym}
+use mathlib.Core.Path.{sym}
 use borrow.Author.Needs.{needs}
 use native.Mathlib.Omega.{arith}
 use Prim.Native.Nat.{_≤_, _-_}

@@ -1,5 +1,4 @@
 -- `cycle_run::last_in` meets its contract.
-use mathlib.Core.Path.{_≡_, refl}
 use borrow.Author.Needs.{needs}
 use native.Mathlib.Omega.{arith}
 use Rattle.events.specs.Packed.{packed}

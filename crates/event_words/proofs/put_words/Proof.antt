@@ -4,7 +4,7 @@ use native.Mathlib.Omega.{arith}
 use Prim.Native.Nat.{_-_, _≤_, _<_}
 use lib.ListN.{length, take, length-set}
 use lib.Seq.{sets, take-all}
-use Rattle.printout.proofs.Writing.{sets-take}
+use Rattle.number_text.proofs.Writing.{sets-take}
 use borrow.Author.Needs.{needs}
 use Rattle.event_words.proofs.put_words.Statement.{statement}
 use Rattle.event_words.proofs.put_words.Tie as tie

@@ -22,7 +22,7 @@ loop-holds c = (omega arith, refl)
 
 loop-again : tie.Need-loop-again Inv-loop μ-loop
 unfolding allTo
-loop-again c = (omega arith, rw add-one cc)
+loop-again c = (omega arith, rw (add-one, c .event-fits .ensures, c .before .before .loop .inv .1))
 
 returns : tie.Need-returns Inv-loop μ-loop
 unfolding eventsFit

@@ -1,8 +1,6 @@
 -- `periodic::closed` meets its contract.
-use mathlib.Core.Path.{_≡_}
 use mathlib.Core.Bool.{_&&_}
 use borrow.Author.Needs.{needs}
-use native.Mathlib.Omega.{arith}
 use lib.Dec.{leb}
 use lib.ListN.{length}
 use Rattle.events.specs.Packed.{packed}
@@ -12,11 +10,11 @@ use Rattle.periodic.proofs.Answered.{refuses, answers-as, folded-runs, 
 use Rattle.periodic.proofs.closed.Statement.{statement}
 use Rattle.periodic.proofs.closed.Tie as tie
 
-solved-requires : tie.Need-solved-requires
-solved-requires c κs =
+execute-prepared-periodic-steady-state-requires : tie.Need-execute-prepared-periodic-steady-state-requires
+execute-prepared-periodic-steady-state-requires c κs =
     let g = c .before .before .before .before .before .before .before .before .before .before .before .before .before .before .args in
     let h = c .before .before .before .before .before .before .before .before .before .before .before .before .before .before .pre in
-    let e = c .before .before .before .before .before .before .ready .ensures in
+    let e = c .before .before .before .before .before .before .prepare-periodic-steady-state .ensures in
     let es = packed (g .reals .now) (g .words .now) (g .count) in
     let r = rw (c .before .before .before .before .enum-told .given .1) at (e .0) in (
       folded-runs (g .kernel) (g .n) (g .window) (g .samples .now) es (g .tolerance) (h .0) (h .1) r (rw packed-length (e .1)),
@@ -29,19 +27,19 @@ returns c =
     let g = c .before .before .before .before .before .before .before .before .before .before .before .before .args in
     refuses (g .amounts .now) (g .residual .now) (c .refused .ensures)
     (closed-stops (propagatorOf (g .kernel)) (g .n) (g .window) (g .samples .now) (packed (g .reals .now) (g .words .now) (g .count)) (g .tolerance) (leb (g .n) (length (g .amounts .now)) && leb (g .n) (length (g .residual .now)))
-    (rw (c .before .before .reply .given .1) at (c .before .before .before .before .ready .ensures .0)))
+    (rw (c .before .before .reply .given .1) at (c .before .before .before .before .prepare-periodic-steady-state .ensures .0)))
 
 returns-2 : tie.Need-returns-2
 returns-2 c =
     let g = c .before .before .before .before .before .before .before .before .before .before .before .before .before .before .before .before .before .before .before .args in
     answers-as
     (closed-goes (propagatorOf (g .kernel)) (g .n) (g .window) (g .samples .now) (packed (g .reals .now) (g .words .now) (g .count)) (g .tolerance) (leb (g .n) (length (g .amounts .now)) && leb (g .n) (length (g .residual .now)))
-    (rw (c .before .before .before .before .before .before .before .before .before .enum-told .given .1) at (c .before .before .before .before .before .before .before .before .before .before .before .ready .ensures .0)))
-    (c .before .before .before .before .solved .ensures)
+    (rw (c .before .before .before .before .before .before .before .before .before .enum-told .given .1) at (c .before .before .before .before .before .before .before .before .before .before .before .prepare-periodic-steady-state .ensures .0)))
+    (c .before .before .before .before .execute-prepared-periodic-steady-state .ensures)
 
 pub closed-spec : {M : Type 1} → statement M
 closed-spec =
     tie.close
     (tie.spec
     (λ c κs. search needs) (λ c κs. search needs) (λ c κs. search needs) (λ c. search needs) (λ c κs. search needs)
-    (λ c. search needs) solved-requires returns (λ c. search needs) (λ c. search needs) returns-2)
+    (λ c. search needs) execute-prepared-periodic-steady-state-requires returns (λ c. search needs) (λ c. search needs) returns-2)

@@ -1,9 +1,6 @@
 -- `periodic::periodic_steady_state` meets its contract.
-use mathlib.Core.Path.{_≡_, refl, sym, ap, _∙_}
-use mathlib.Core.Bool.{_&&_}
 use borrow.Author.Needs.{needs}
 use borrow.Author.Tests.{lt-leb, le-leb}
-use lib.Dec.{leb}
 use lib.ListN.{length}
 use Rattle.periodic.specs.Entry.{steadyRoom}
 use Rattle.periodic.proofs.Answered.{refuses, answers-as, limit-stops, kernel-stops, entry-goes}

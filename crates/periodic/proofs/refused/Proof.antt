@@ -1,5 +1,4 @@
 -- `periodic::refused` meets its contract.
-use mathlib.Core.Path.{refl}
 use borrow.Author.Needs.{needs}
 use lib.Ieee.{ofBits}
 use Rattle.periodic.proofs.refused.Statement.{statement}

@@ -1,12 +1,11 @@
 -- `residual::residuals` meets its contract. The invariant: the first i cells are filled.
-use mathlib.Core.Path.{_≡_, refl, ap, ap₂, sym, _∙_}
+use mathlib.Core.Path.{_≡_, refl, ap₂, sym}
 use borrow.Author.Needs.{needs}
-use native.Mathlib.Nat.{le-antisymm}
 use native.Mathlib.Omega.{arith}
 use Prim.Native.Nat.{ℕ, _≤_, _-_}
 use lib.ListN.{take}
 use lib.Seq.{getD-take}
-use lib.Ieee.{Float, nan, binary64, sub, ofBits}
+use lib.Ieee.{nan, binary64, sub, ofBits}
 use Rattle.binary64.specs.Doubles.{plusZero}
 use Rattle.matrix.specs.Matrix.{cell}
 use Rattle.matrix.proofs.Filled.{fill, fillFrom, fill-more, part-filled}

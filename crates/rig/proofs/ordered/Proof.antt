@@ -28,7 +28,7 @@ event-of-requires : tie.Need-event-of-requires Inv-loop μ-loop
 event-of-requires c κs = omega arith
 
 loop-again : tie.Need-loop-again Inv-loop μ-loop
-loop-again c = (omega arith, rw (add-one, ordered-more) cc)
+loop-again c = (omega arith, rw (add-one, ordered-more, c .plus-dose .ensures, c .before .event-of .ensures, c .before .before .before .loop .inv .1))
 
 returns : tie.Need-returns Inv-loop μ-loop
 unfolding eventsOf

@@ -5,7 +5,7 @@ use native.Mathlib.Omega.{arith}
 use Prim.Native.Nat.{_≤_, _-_}
 use lib.Ieee.{ofBits}
 use Rattle.binary64.specs.Doubles.{plusZero}
-use Rattle.linear_pk.specs.LinearPk.{padded, paddedCell}
+use Rattle.mammillary.specs.Rates.{padded, paddedCell}
 use Rattle.matrix.proofs.Filled.{fill, fillFrom, fill-more, filled}
 use Rattle.linear_pk.proofs.bind.padded_amounts.Statement.{statement}
 use Rattle.linear_pk.proofs.bind.padded_amounts.Tie as tie

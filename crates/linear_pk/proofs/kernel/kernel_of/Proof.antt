@@ -7,10 +7,11 @@ use Rattle.linear_pk.proofs.kernel.kernel_of.Tie as tie
 
 returns : tie.Need-returns
 unfolding kernelOf
-returns c = rw (c .before .before .rates .ensures, c .before .before .before .central .ensures .0, c .before .padded-volumes .ensures, c .has-depot .ensures)
+returns c = rw (c .before .rates .ensures, c .before .before .absorbed .ensures, c .before .before .before .central .ensures .0, c .padded-volumes .ensures, c .before .before .before .before .has-depot .ensures)
 
 pub kernel-of-spec : {M : Type 1} → statement M
 kernel-of-spec =
     tie.close
     (tie.spec
-    (λ c κs. search needs) (λ c. search needs) (λ c κs. search needs) (λ c κs. search needs) (λ c κs. search needs) returns)
+    (λ c κs. search needs) (λ c κs. search needs) (λ c. search needs) (λ c κs. search needs) (λ c κs. search needs)
+    (λ c κs. search needs) returns)

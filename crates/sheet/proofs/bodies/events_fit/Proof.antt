@@ -27,7 +27,7 @@ event-fits-requires c κs = omega arith
 
 loop-again : tie.Need-loop-again Inv-loop μ-loop
 unfolding allTo
-loop-again c = (omega arith, rw add-one cc)
+loop-again c = (omega arith, rw (add-one, c .event-fits .ensures, c .before .before .loop .inv .1))
 
 returns : tie.Need-returns Inv-loop μ-loop
 unfolding eventsFit

@@ -6,7 +6,7 @@ use Rattle.sheet.proofs.values.window_of.Tie as tie
 
 returns : tie.Need-returns
 unfolding windowOf
-returns c = cc
+returns c = rw (c .word3 .ensures, c .before .word2 .ensures, c .before .before .propagations-of .ensures, c .before .before .before .word .ensures, c .before .before .before .before .double4 .ensures, c .before .before .before .before .before .double3 .ensures, c .before .before .before .before .before .before .double2 .ensures, c .before .before .before .before .before .before .before .double .ensures)
 
 pub window-of-spec : {M : Type 1} → statement M
 window-of-spec =

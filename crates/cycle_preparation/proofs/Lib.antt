@@ -1,0 +1,2 @@
+-- The laws of what is ahead of the runs.
+pub mod Ready

@@ -1,0 +1,85 @@
+// The folded cycle over words, six to an event, for the C interface.
+use events::EVENTS;
+use linear_pk::LinearPk;
+use protocol::Window;
+use refusal::Reply;
+use steady_state::Listed;
+ghost use mathlib.Core.Path.{_≡_};
+ghost use mathlib.Core.List.{[], map};
+ghost use Prim.Native.Nat.{_≤_, _*_};
+ghost use lib.ListN.{length, take};
+ghost use Rattle.refusal.specs.Result.{number, valueOr};
+ghost use Rattle.printout.specs.Cells.{Wrote};
+ghost use Rattle.event_words.specs.Words.{listWords};
+ghost use Rattle.steady_state.specs.Entry.{eventIn};
+ghost use Rattle.cycle_words.specs.Words.{foldWords, cellsOf};
+
+// Words of an event.
+const WORDS: usize = 6;
+
+// 01's number, 0 where the list is folded, and how many events it has.
+pub struct FoldedWords {
+    pub number: u64,
+    pub count: usize,
+}
+
+// The words of the first count events, from the front on.
+fn put_list(list: [Listed; EVENTS], count: usize, out: &mut [u64]) -> usize
+    requires { ⌜ (count ≤ 192) × (6 * count ≤ length (now out)) ⌝ }
+    ensures { λ r. ⌜ Wrote (listWords (take count (map eventIn list))) 0 (now (out .entry)) r (now (out .exit)) ⌝ }
+{
+    let mut at = 0usize;
+    for i in 0..count {
+        let listed = list[i];
+        let event = listed.event;
+        at = event_words::put_event(out, at, event);
+    }
+    at
+}
+
+// The list of a cycle, from words to words: 40, then the library's numbers, last 4.
+pub fn fold_words(
+    kernel: LinearPk,
+    window: Window,
+    events: &[u64],
+    samples: &[f64],
+    folded: &mut [u64],
+) -> FoldedWords
+    ensures { λ r. ⌜ r .number ≡ number (foldWords kernel window (now (events .entry)) (now (samples .entry)) (length (now (folded .entry)))) ⌝ }
+    ensures { λ r. ⌜ r .count ≡ length (valueOr (foldWords kernel window (now (events .entry)) (now (samples .entry)) (length (now (folded .entry)))) []) ⌝ }
+    ensures { λ r. ⌜ now (folded .exit) ≡ cellsOf (foldWords kernel window (now (events .entry)) (now (samples .entry)) (length (now (folded .entry)))) (now (folded .entry)) ⌝ }
+{
+    if !layout::events_fit(events) {
+        return FoldedWords {
+            number: 40,
+            count: 0,
+        };
+    }
+    let list = layout::events_of(events);
+    let cycle = steady_state::normalize_periodic_cycle(
+        kernel,
+        window,
+        list,
+        events.len() / WORDS,
+        samples,
+    );
+    let reply = cycle.reply;
+    match reply {
+        Reply::Refused(refusal) => FoldedWords {
+            number: refusal::number(Reply::Refused(refusal)),
+            count: 0,
+        },
+        Reply::Done => {
+            let count = cycle.count;
+            if WORDS * count > folded.len() {
+                return FoldedWords {
+                    number: 4,
+                    count: 0,
+                };
+            }
+            let places = cycle.events;
+            put_list(places, count, folded);
+            FoldedWords { number: 0, count }
+        }
+    }
+}

@@ -1,0 +1,3 @@
+pub mod Doses
+pub mod Chains
+pub mod Boluses
