@@ -1,7 +1,7 @@
 -- A closed cycle that is solved: its list folds, and the run of that list from the amounts reaches the end.
 use mathlib.Core.Path.{_≡_, refl, sym, ap, ap₂, _∙_, subst}
 use mathlib.Core.Bool.{Bool, true, false}
-use mathlib.Core.List.{List, [], map}
+use mathlib.Core.List.{List, [], _∷_, _++_, map}
 use mathlib.Core.Option.{Option, some, none}
 use Prim.Native.Nat.{ℕ, _+_, _*_, _≤_}
 use native.Mathlib.Omega.{arith}
@@ -22,15 +22,19 @@ use Rattle.linear_pk.specs.declared.kernel.LinearPk.{LinearPk}
 use Rattle.protocol.specs.declared.Event.{Event}
 use Rattle.protocol.specs.declared.Window.{Window}
 use Rattle.protocol.specs.Prepare.{prepare}
+use Rattle.protocol.specs.Execute.{Row, Outcome}
+use Rattle.protocol.specs.PlainRun.{rowsLeft}
+use Rattle.protocol.proofs.EntryLaws.{width}
+use Rattle.protocol.proofs.ListLaws.{both}
 use Rattle.simulation.specs.KernelRun.{propagatorOf}
-use Rattle.simulation.proofs.KernelRuns.{kernel-laws}
+use Rattle.simulation.proofs.KernelRuns.{kernel-laws, kernel-run}
 use Rattle.layout.specs.Layout.{eventCount, eventOf, eventsOf, eventOrNone}
 use Rattle.layout.proofs.Laws.{front-events}
 use Rattle.sheet.specs.Values.{doubleOf, doublesFrom, windowOf}
 use Rattle.cycle.specs.declared.SteadyStateTolerance.{SteadyStateTolerance}
 use Rattle.cycle.specs.Fold.{fold}
-use Rattle.cycle.specs.Closed.{Timed, stopped, got, then, untimed, unlessFails, unlessNumber, tolerancePasses, divided, ready, lastPost, lastOf, Solved, closed}
-use Rattle.cycle.specs.ClosedCycle.{TimesFit, Yields, Accepts, ClosedCycle}
+use Rattle.cycle.specs.Closed.{Timed, stopped, got, then, untimed, unlessFails, unlessNumber, tolerancePasses, divided, ready, lastPost, endOf, lastOf, Solved, closed}
+use Rattle.cycle.specs.ClosedCycle.{TimesFit, Yields, Accepts, Answers, ClosedCycle}
 use Rattle.cycle.proofs.Theorems.{closed-cycle}
 use Rattle.cycle.proofs.InnerRuns.{ready-inner}
 use Rattle.cycle.proofs.Results.{no-answer, same-answer}
@@ -85,10 +89,10 @@ module _ (k : LinearPk) (w ss es : List ℕ) (h : sound k ≡ done k) (few : eve
   pub yields : Yields (propagatorOf k) n (windowOf w) (doublesOf ss) (eventsOf es) (toleranceOf w) (s .amounts)
   yields = facts .needs s is-closed
 
-  accepts : Accepts (propagatorOf k) n (windowOf w) (toleranceOf w) (yields .folded) (s .amounts)
+  pub accepts : Accepts (propagatorOf k) n (windowOf w) (toleranceOf w) (yields .folded) (s .amounts)
   accepts = facts .accepts (s .amounts) yields .0 (s, is-closed)
 
-  sized : Sized n s
+  pub sized : Sized n s
   sized = subst (Kept n) q (steady-kept k w ss es h)
 
   folds : fold n (windowOf w) (doublesOf ss) (eventsOf es) ≡ done (yields .folded)
@@ -112,6 +116,29 @@ module _ (k : LinearPk) (w ss es : List ℕ) (h : sound k ≡ done k) (few : eve
       → nextWith k w ss es ≡ got (record { tolerance = toleranceOf w; starts = s .amounts; ends = e; residuals = s .residuals })
   unfolding nextWith
   next-is l = rw (q, folds, l) refl
+
+  -- ---- the cycle's end, and what is accepted of it
+  abbrev pub end : List Float
+  end = lastPost [] (accepts .left .rows)
+
+  pub next-ends : nextWith k w ss es ≡ got (record { tolerance = toleranceOf w; starts = s .amounts; ends = end; residuals = s .residuals })
+  unfolding lastOf
+  next-ends = next-is (ap endOf (accepts .reaches))
+
+  pub answers : Answers n (toleranceOf w) (s .amounts) end s
+  answers = facts .answer (s .amounts) yields accepts s is-closed
+
+  pub end-width : length end ≡ n
+  end-width =
+      let e = facts .ends (s .amounts) yields accepts in
+      let p = kernel-run k h (divided n (windowOf w)) [] (yields .folded) (goes .prepared) (s .amounts) (goes .passes) .rows in
+      let r = subst (λ (o : Outcome). T (all (λ (r : Row). amountsPass n (r .amounts)) (rowsLeft o))) (accepts .reaches) p in
+      let l = e .0 .end-row in
+      ap length (e .1 ∙ sym (l .final)) ∙ width n (l .last) (last-passes (λ (r : Row). amountsPass n (r .amounts)) (l .ahead) (l .last) (subst (λ (rs : List Row). T (all (λ (r : Row). amountsPass n (r .amounts)) rs)) (l .whole) r))
+    where
+      last-passes : (p : Row → Bool) (rs : List Row) (r : Row) → T (all p (rs ++ (r ∷ []))) → T (p r)
+      last-passes p [] r t = both (p r) true t .0
+      last-passes p (x ∷ rs) r t = last-passes p rs r (both (p x) (all p (rs ++ (r ∷ []))) t .1)
 
   -- ---- what the code folds
   module _ {readings : List Float} {list : List Event} {span : Window} {count samples : ℕ} (r : readings ≡ doublesFrom ss 0 samples) (v : list ≡ tabulate 192 (eventOrNone es)) (p : span ≡ windowOf w)

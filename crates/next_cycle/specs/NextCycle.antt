@@ -1,21 +1,16 @@
--- One more cycle from the amounts of a sheet's closed one, and the bytes that `rig-cycle` prints of it. Definitions only, and two claims.
-use mathlib.Core.Path.{_≡_}
-use mathlib.Core.Bool.{true}
+-- One more cycle from the amounts of a closed one, and its printout. Definitions only.
 use mathlib.Core.List.{List}
-use Prim.Native.Nat.{ℕ, _≤_}
-use lib.ListN.{length}
-use lib.Ieee.{Float}
+use Prim.Native.Nat.{ℕ}
 use Rattle.linear_pk.specs.LinearPk.{stateCount}
 use Rattle.linear_pk.specs.declared.kernel.LinearPk.{LinearPk}
 use Rattle.simulation.specs.KernelRun.{propagatorOf}
 use Rattle.layout.specs.Layout.{eventsOf}
-use Rattle.sheet.specs.Sheet.{Sheet, readSheet}
-use Rattle.sheet.specs.Values.{modelOf, windowOf}
+use Rattle.sheet.specs.Values.{windowOf}
 use Rattle.cycle.specs.Fold.{fold}
 use Rattle.cycle.specs.Closed.{Timed, stopped, got, then, untimed, lastOf, Solved}
 use Rattle.rig.specs.Rig.{Printout, doublesOf}
-use Rattle.steady_sheet.specs.SteadySheet.{toleranceOf, steadyWith, steadyOfBytes}
-use Rattle.cycle_printout.specs.CyclePrintout.{NextCycle, closes, cycleText}
+use Rattle.steady_sheet.specs.SteadySheet.{toleranceOf, steadyWith}
+use Rattle.cycle_printout.specs.CyclePrintout.{NextCycle, cycleText}
 
 -- the closed cycle; then the run of its folded list from the amounts, on the divided budgets: the amounts of its last post row
 unfoldable pub nextWith : LinearPk → List ℕ → List ℕ → List ℕ → Timed NextCycle
@@ -25,15 +20,6 @@ nextWith k w ss es =
     (λ fs. then (lastOf (propagatorOf k) (stateCount k) (windowOf w) fs (s .amounts))
     (λ e. got (record { tolerance = toleranceOf w; starts = s .amounts; ends = e; residuals = s .residuals }))))
 
--- the model's 1 and 2 ahead, and the reader's 40 and 5 ahead of them
-unfoldable pub nextSheet : Sheet → Timed NextCycle
-unfolding nextWith
-nextSheet s = then (untimed (modelOf (s .model))) (λ (k : LinearPk). nextWith k (s .window) (s .samples) (s .events))
-
-unfoldable pub nextOfBytes : List ℕ → Timed NextCycle
-unfolding nextSheet
-nextOfBytes bs = then (untimed (readSheet bs)) nextSheet
-
 -- ---- its printout
 -- 0 where there is no refusal
 abbrev pub timedNumber : {A : Type 0} → Timed A → ℕ
@@ -42,23 +28,3 @@ timedNumber (got a) = 0
 
 abbrev pub cyclePrintout : Timed NextCycle → Printout
 cyclePrintout o = record { number = timedNumber o; text = cycleText o }
-
-abbrev pub cyclePrintoutOfBytes : List ℕ → Printout
-cyclePrintoutOfBytes bs = cyclePrintout (nextOfBytes bs)
-
--- ---- what is claimed
--- room for the printout of any sheet: four states
-abbrev pub mostCycleBytes : ℕ
-mostCycleBytes = 283
-
-abbrev pub EveryCyclePrintoutFits : Type 0
-EveryCyclePrintoutFits = (bs : List ℕ) → length (cyclePrintoutOfBytes bs .text) ≤ mostCycleBytes
-
--- a sheet whose closed cycle is refused has that refusal; one that is solved closes
-pub record NextCloses (bs : List ℕ) : Type 0 where
-  pub refused : (c : ℕ) (t : Float) → steadyOfBytes bs ≡ stopped c t → nextOfBytes bs ≡ stopped c t
-  pub closed : (s : Solved) → steadyOfBytes bs ≡ got s → (x : NextCycle) × (nextOfBytes bs ≡ got x) × (x .starts ≡ s .amounts) × (x .residuals ≡ s .residuals)
-      × (closes (x .tolerance) (x .starts) (x .ends) (x .residuals) ≡ true)
-
-abbrev pub EveryNextCycleCloses : Type 0
-EveryNextCycleCloses = (bs : List ℕ) → NextCloses bs

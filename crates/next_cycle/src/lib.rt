@@ -1,44 +1,30 @@
-// One more cycle from the amounts of a sheet's closed one: its bytes in, the bytes of its printout out.
+// One more cycle from the amounts of a closed one, and its printout.
 use cycle_printout::print_cycle;
 use cycle_simulation::simulate_cycle;
 use events::EVENTS;
 use linear_pk::LinearPk;
 use periodic::SteadyReply;
 use protocol::Event;
-use refusal::Reply;
 use rig::PrintReply;
 use steady_printout::print_steady;
 use steady_state::Listed;
 ghost use mathlib.Core.Path.{_≡_};
-ghost use mathlib.Core.Bool.{true};
-ghost use mathlib.Core.List.{[], map};
+ghost use mathlib.Core.List.{map};
 ghost use Prim.Native.Nat.{_+_, _/_, _≤_};
 ghost use lib.ListN.{length, take, drop};
 ghost use Rattle.refusal.specs.Result.{done};
 ghost use Rattle.linear_pk.specs.LinearPk.{sound, stateCount};
-ghost use Rattle.printout.specs.Cells.{printed, printedLength};
 ghost use Rattle.cycle.specs.Closed.{got};
 ghost use Rattle.steady_state.specs.Entry.{eventIn};
 ghost use Rattle.periodic.specs.Entry.{steadyReply};
-ghost use Rattle.sheet.specs.Sheet.{wordsOf, modelFits};
-ghost use Rattle.rig.specs.Rig.{numberInto};
+ghost use Rattle.sheet.specs.Sheet.{wordsOf};
 ghost use Rattle.rig.specs.Replies.{Prints};
 ghost use Rattle.steady_sheet.specs.SteadySheet.{toleranceOf, steadyWith};
-ghost use Rattle.next_cycle.specs.NextCycle.{nextWith, nextSheet, cyclePrintout, cyclePrintoutOfBytes};
+ghost use Rattle.next_cycle.specs.NextCycle.{nextWith, cyclePrintout};
 ghost use Rattle.next_cycle.specs.Solves.{Solves};
 
 // Bytes of an event.
 const EVENT: usize = 48;
-
-// The most samples of a sheet, and the most states of a kernel.
-const SAMPLES: usize = 256;
-
-const STATES: usize = 4;
-
-// The most rows of a cycle: four for each of 192 events, and two. The most amounts of those rows.
-const ROWS: usize = 770;
-
-const VALUES: usize = 3080;
 
 // The events of a list.
 fn events_in(list: [Listed; EVENTS]) -> [Event; EVENTS]
@@ -150,7 +136,7 @@ fn refusal_of(reply: SteadyReply) -> Refusal
 }
 
 // The printout of a kernel and the other bodies: the refusal of their closed cycle, or one cycle more.
-fn next_bodies(
+pub fn next_bodies(
     kernel: LinearPk,
     window: &[u8],
     samples: &[u8],
