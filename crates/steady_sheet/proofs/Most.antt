@@ -15,7 +15,6 @@ use Rattle.sheet.specs.Values.{modelOf}
 use Rattle.printout.specs.Printout.{refusedText}
 use Rattle.printout.proofs.Lengths.{places-most, refused-text-length}
 use Rattle.cycle.specs.Closed.{Timed, stopped, got, then, untimed, Solved}
-use Rattle.rig.specs.Rig.{Printout}
 use Rattle.rig.proofs.Amounts.{few-states}
 use Rattle.steady_printout.specs.SteadyPrintout.{solvedText, steadyText}
 use Rattle.steady_printout.proofs.Lines.{solved-length}
@@ -37,12 +36,12 @@ kept-most n (got s) l h =
     omega arith
 
 pub every-steady-printout-fits : EverySteadyPrintoutFits
-unfolding steadyOfBytes steadyText
+unfolding steadyOfBytes steadySheet steadyText
 every-steady-printout-fits bs = on (readSheet bs)
   where
     model : (s : Sheet) (m : Result LinearPk) → modelOf (s .model) ≡ m → length (steadyPrintout (steadySheet s) .text) ≤ mostSteadyBytes
-    model s (refused c) e = subst (λ (p : Printout). length (p .text) ≤ mostSteadyBytes) (sym (sheet-refused s e)) (refusal-most c plusZero)
-    model s (done k) e = subst (λ (p : Printout). length (p .text) ≤ mostSteadyBytes) (sym (sheet-runs s e)) (kept-most (stateCount k) (steadyWith k (s .window) (s .samples) (s .events)) (few-states k) (steady-kept k (s .window) (s .samples) (s .events) (model-sound (s .model) e)))
+    model s (refused c) e = subst (λ (o : Timed Solved). length (steadyText o) ≤ mostSteadyBytes) (sym (sheet-refused steadyWith s e)) (refusal-most c plusZero)
+    model s (done k) e = subst (λ (o : Timed Solved). length (steadyText o) ≤ mostSteadyBytes) (sym (sheet-runs steadyWith s e)) (kept-most (stateCount k) (steadyWith k (s .window) (s .samples) (s .events)) (few-states k) (steady-kept k (s .window) (s .samples) (s .events) (model-sound (s .model) e)))
 
     on : (r : Result Sheet) → length (steadyPrintout (then (untimed r) steadySheet) .text) ≤ mostSteadyBytes
     on (refused c) = refusal-most c plusZero

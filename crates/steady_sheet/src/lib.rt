@@ -30,7 +30,7 @@ const SAMPLES: usize = 256;
 const STATES: usize = 4;
 
 // The last two words of the window.
-fn tolerance_of(window: &[u8]) -> SteadyStateTolerance
+pub fn tolerance_of(window: &[u8]) -> SteadyStateTolerance
     requires { ⌜ 72 ≤ length (now window) ⌝ }
     ensures { λ r. ⌜ r ≡ toleranceOf (wordsOf (now (window .entry))) ⌝ }
 {
@@ -41,7 +41,7 @@ fn tolerance_of(window: &[u8]) -> SteadyStateTolerance
 }
 
 // The closed cycle of a kernel and the other bodies, into slices of as many cells as it has states.
-fn solve_bodies(
+pub fn solve_bodies(
     kernel: LinearPk,
     window: &[u8],
     samples: &[u8],

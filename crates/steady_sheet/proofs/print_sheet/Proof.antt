@@ -8,6 +8,8 @@ use Rattle.preparation.proofs.Tests.{refusal-number}
 use Rattle.sheet.specs.Sheet.{wordsOf, Sheet}
 use Rattle.rig.specs.Replies.{refusal}
 use Rattle.rig.proofs.Replies.{prints-same}
+use Rattle.steady_printout.specs.SteadyPrintout.{steadyText}
+use Rattle.steady_sheet.specs.SteadySheet.{steadyWith, steadySheet, steadyPrintout}
 use Rattle.steady_sheet.proofs.Kernels.{model-sound}
 use Rattle.steady_sheet.proofs.Sheets.{sheet-refused, sheet-runs}
 use borrow.Author.Needs.{needs}
@@ -23,18 +25,20 @@ print-kernel-requires c κs =
     (model-sound (wordsOf (s .args .model .now)) (sym (c .before .before .before .before .kernel-of .ensures .0) ∙ ap (λ (r : Reply). resultOf r (c .before .before .before .before .kernel-of .result .kernel)) (c .before .before .enum-told .given .1)), s .pre .1, s .pre .2, s .pre .3)
 
 returns : tie.Need-returns
+unfolding steadySheet steadyText
 returns c =
     let g = c .before .before .before .before .before .before .before .before .before .before .before .before .before .before .args in
     let s : Sheet = record { model = wordsOf (g .model .now); window = wordsOf (g .window .now); amounts = []; samples = wordsOf (g .samples .now); events = wordsOf (g .events .now) } in
     let m = sym (c .before .before .before .before .before .before .before .before .kernel-of .ensures .0) ∙ ap (λ (r : Reply). resultOf r (c .before .before .before .before .before .before .before .before .kernel-of .result .kernel)) (c .before .before .before .before .before .before .reply .given .1) in
-    prints-same (ap refusal (c .before .before .before .before .number .ensures) ∙ sym (sheet-refused s m)) (c .before .before .print-refusal .ensures)
+    prints-same (ap refusal (c .before .before .before .before .number .ensures) ∙ sym (ap steadyPrintout (sheet-refused steadyWith s m))) (c .before .before .print-refusal .ensures)
 
 returns-2 : tie.Need-returns-2
+unfolding steadySheet
 returns-2 c =
     let g = c .before .before .before .before .before .before .before .before .before .before .before .before .before .args in
     let s : Sheet = record { model = wordsOf (g .model .now); window = wordsOf (g .window .now); amounts = []; samples = wordsOf (g .samples .now); events = wordsOf (g .events .now) } in
     let m = sym (c .before .before .before .before .before .before .before .kernel-of .ensures .0) ∙ ap (λ (r : Reply). resultOf r (c .before .before .before .before .before .before .before .kernel-of .result .kernel)) (c .before .before .before .before .before .enum-told .given .1) in
-    prints-same (sym (sheet-runs s m)) (c .before .before .print-kernel .ensures)
+    prints-same (sym (ap steadyPrintout (sheet-runs steadyWith s m))) (c .before .before .print-kernel .ensures)
 
 pub print-sheet-spec : {M : Type 1} → statement M
 print-sheet-spec =

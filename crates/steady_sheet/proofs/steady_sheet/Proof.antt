@@ -5,17 +5,20 @@ use Prim.Native.Nat.{_<_}
 use Rattle.refusal.specs.Result.{number}
 use Rattle.sheet.specs.Sheet.{readSheet}
 use Rattle.rig.proofs.Replies.{prints-same}
+use Rattle.steady_printout.specs.SteadyPrintout.{steadyText}
+use Rattle.steady_sheet.specs.SteadySheet.{steadyWith, steadySheet, steadyOfBytes, steadyPrintout}
 use Rattle.rig.proofs.Sheets.{inside, readable}
-use Rattle.steady_sheet.proofs.Sheets.{not-read, printout-is}
+use Rattle.steady_sheet.proofs.Sheets.{not-read, bytes-are}
 use borrow.Author.Needs.{needs}
 use Rattle.steady_sheet.proofs.steady_sheet.Statement.{statement}
 use Rattle.steady_sheet.proofs.steady_sheet.Tie as tie
 
 returns : tie.Need-returns
+unfolding steadyOfBytes steadySheet steadyText
 returns c =
     let r = c .before .before .before .before .before .read-sheet in
     let h : 0 < r .result .number = omega (arith, c .before .before .before .before .if1 .taken) in
-    let p = prints-same (sym (not-read (c .before .before .before .before .before .before .before .before .args .bytes .now) (r .ensures .0) h)) (c .before .before .print-refusal .ensures) in
+    let p = prints-same (sym (ap steadyPrintout (not-read steadyWith (c .before .before .before .before .before .before .before .before .args .bytes .now) (r .ensures .0) h))) (c .before .before .print-refusal .ensures) in
     (p .number, (p .length, p .cells))
 
 body-requires : tie.Need-body-requires
@@ -55,13 +58,14 @@ print-sheet-requires c κs =
     (c .before .before .before .before .body .ensures) (c .before .before .before .body2 .ensures) (c .before .before .body3 .ensures) (c .before .body4 .ensures)
 
 returns-2 : tie.Need-returns-2
+unfolding steadyOfBytes steadySheet
 returns-2 c =
     let r = c .before .before .before .before .before .before .before .before .before .before .read-sheet in
     let bs = c .before .before .before .before .before .before .before .before .before .before .before .before .before .args .bytes .now in
     let q : number (readSheet bs) ≡ 0 = sym (r .ensures .0) ∙ omega (arith, c .before .before .before .before .before .before .before .before .before .if1 .left) in
-    let e = printout-is bs q (r .result .places) (r .ensures .1) (c .before .before .before .before .before .before .before .body .result .now) (c .before .before .before .before .before .before .body2 .result .now) (c .before .before .before .before .before .body3 .result .now) (c .before .before .before .before .body4 .result .now)
+    let e = bytes-are steadyWith bs q (r .result .places) (r .ensures .1) (c .before .before .before .before .before .before .before .body .result .now) (c .before .before .before .before .before .before .body2 .result .now) (c .before .before .before .before .before .body3 .result .now) (c .before .before .before .before .body4 .result .now)
     (c .before .before .before .before .before .before .before .body .ensures) (c .before .before .before .before .before .before .body2 .ensures) (c .before .before .before .before .before .body3 .ensures) (c .before .before .before .before .body4 .ensures) in
-    let p = prints-same e (c .before .before .print-sheet .ensures) in
+    let p = prints-same (ap steadyPrintout e) (c .before .before .print-sheet .ensures) in
     (p .number, (p .length, p .cells))
 
 pub steady-sheet-spec : {M : Type 1} → statement M

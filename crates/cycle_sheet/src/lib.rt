@@ -1,0 +1,133 @@
+// One more cycle from the amounts of a sheet's closed one: its bytes in, the bytes of its printout out.
+use linear_pk::LinearPk;
+use next_cycle::next_bodies;
+use refusal::Reply;
+use rig::PrintReply;
+ghost use mathlib.Core.Path.{_≡_};
+ghost use mathlib.Core.Bool.{true};
+ghost use mathlib.Core.List.{[]};
+ghost use Prim.Native.Nat.{_/_, _≤_};
+ghost use lib.ListN.{length};
+ghost use Rattle.refusal.specs.Result.{done};
+ghost use Rattle.linear_pk.specs.LinearPk.{sound};
+ghost use Rattle.printout.specs.Cells.{printed, printedLength};
+ghost use Rattle.sheet.specs.Sheet.{wordsOf, modelFits};
+ghost use Rattle.rig.specs.Rig.{numberInto};
+ghost use Rattle.rig.specs.Replies.{Prints};
+ghost use Rattle.next_cycle.specs.NextCycle.{nextWith, cyclePrintout};
+ghost use Rattle.cycle_sheet.specs.CycleSheet.{nextSheet, cyclePrintoutOfBytes};
+
+// The most samples of a sheet, and the most states of a kernel.
+const SAMPLES: usize = 256;
+
+const STATES: usize = 4;
+
+// The most rows of a cycle: four for each of 192 events, and two. The most amounts of those rows.
+const ROWS: usize = 770;
+
+const VALUES: usize = 3080;
+
+// Cells for samples, and for the rows of a cycle. What they hold is of no matter.
+fn sample_cells() -> [f64; SAMPLES]
+    ensures { λ r. ⌜ 256 ≡ length r ⌝ }
+{
+    [0.0; SAMPLES]
+}
+
+fn time_cells() -> [f64; ROWS]
+    ensures { λ r. ⌜ 770 ≡ length r ⌝ }
+{
+    [0.0; ROWS]
+}
+
+fn side_cells() -> [u8; ROWS]
+    ensures { λ r. ⌜ 770 ≡ length r ⌝ }
+{
+    [0; ROWS]
+}
+
+fn value_cells() -> [f64; VALUES]
+    ensures { λ r. ⌜ 3080 ≡ length r ⌝ }
+{
+    [0.0; VALUES]
+}
+
+// Cells for the cycle of a kernel and the other bodies.
+fn print_kernel(
+    kernel: LinearPk,
+    window: &[u8],
+    samples: &[u8],
+    events: &[u8],
+    out: &mut [u8],
+) -> PrintReply
+    requires { ⌜ (sound kernel ≡ done kernel) × (72 ≤ length (now window)) × (length (now events) / 8 / 6 ≤ 64) × (length (now samples) / 8 ≤ 256) ⌝ }
+    ensures { λ r. ⌜ Prints (cyclePrintout (nextWith kernel (wordsOf (now (window .entry))) (wordsOf (now (samples .entry))) (wordsOf (now (events .entry))))) (now (out .entry)) r (now (out .exit)) ⌝ }
+{
+    let n = kernel.state_count();
+    let count = samples.len() / 8;
+    let mut readings = sample_cells();
+    let mut amounts = [0.0f64; STATES];
+    let mut residual = [0.0f64; STATES];
+    let mut times = time_cells();
+    let mut sides = side_cells();
+    let mut values = value_cells();
+    next_bodies(
+        kernel,
+        window,
+        samples,
+        events,
+        &mut readings[..count],
+        &mut amounts[..n],
+        &mut residual[..n],
+        &mut times,
+        &mut sides,
+        &mut values,
+        out,
+    )
+}
+
+// The printout of a sheet's bodies.
+fn print_sheet(
+    model: &[u8],
+    window: &[u8],
+    samples: &[u8],
+    events: &[u8],
+    out: &mut [u8],
+) -> PrintReply
+    requires { ⌜ (modelFits (wordsOf (now model)) ≡ true) × (72 ≤ length (now window)) × (length (now events) / 8 / 6 ≤ 64) × (length (now samples) / 8 ≤ 256) ⌝ }
+    ensures { λ r. ⌜ Prints (cyclePrintout (nextSheet (record { model = wordsOf (now (model .entry)); window = wordsOf (now (window .entry)); amounts = []; samples = wordsOf (now (samples .entry)); events = wordsOf (now (events .entry)) })))
+        (now (out .entry)) r (now (out .exit)) ⌝ }
+{
+    let made = sheet::kernel_of(model);
+    let reply = made.reply;
+    match reply {
+        Reply::Refused(refusal) => {
+            rig::print_refusal(refusal::number(Reply::Refused(refusal)), out)
+        }
+        Reply::Done => {
+            let kernel = made.kernel;
+            print_kernel(kernel, window, samples, events, out)
+        }
+    }
+}
+
+// The printout of a sheet's next cycle, from the front of out; where it has no room there, 4, and nothing is written.
+pub fn cycle_sheet(bytes: &[u8], out: &mut [u8]) -> PrintReply
+    ensures { λ r. ⌜ r .number ≡ numberInto (now (out .entry)) (cyclePrintoutOfBytes (now (bytes .entry))) ⌝ }
+    ensures { λ r. ⌜ r .length ≡ printedLength (cyclePrintoutOfBytes (now (bytes .entry)) .text) (now (out .entry)) ⌝ }
+    ensures { λ r. ⌜ now (out .exit) ≡ printed (cyclePrintoutOfBytes (now (bytes .entry)) .text) (now (out .entry)) ⌝ }
+{
+    let read = sheet::read_sheet(bytes);
+    let number = read.number;
+    if number != 0 {
+        return rig::print_refusal(number, out);
+    }
+    let places = read.places;
+    print_sheet(
+        sheet::body(bytes, places.model, places.window),
+        sheet::body(bytes, places.window, places.amounts),
+        sheet::body(bytes, places.samples, places.events),
+        sheet::body(bytes, places.events, places.end),
+        out,
+    )
+}

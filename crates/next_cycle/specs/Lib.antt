@@ -1,0 +1,2 @@
+pub mod NextCycle
+pub mod Solves

@@ -1,0 +1,18 @@
+-- `rig_cycle::run` meets its contract: the bytes written are those of the printout.
+use mathlib.Core.Path.{sym}
+use borrow.Author.Needs.{needs}
+use native.Mathlib.Omega.{arith}
+use lib.Seq.{length-take-le}
+use Rattle.cycle_sheet.specs.CycleSheet.{cyclePrintoutOfBytes}
+use Rattle.rig.proofs.Replies.{printed-within}
+use Rattle.rig_cycle.proofs.run.Statement.{statement}
+use Rattle.rig_cycle.proofs.run.Tie as tie
+
+slice-reshare-prefix-write-all : tie.Need-slice-reshare-prefix-write-all
+slice-reshare-prefix-write-all c = omega (arith, c .before .before .cycle-sheet .ensures .1 .0, c .before .text .given, printed-within (cyclePrintoutOfBytes (c .before .before .before .before .before .before .args .sheet .now) .text) (c .before .before .before .before .before .before .args .text .now))
+
+slice-aggregate-write-all : tie.Need-slice-aggregate-write-all
+slice-aggregate-write-all c = sym (length-take-le _ _ (omega (arith, c .before .before .before .cycle-sheet .ensures .1 .0, c .before .before .text .given, printed-within (cyclePrintoutOfBytes (c .before .before .before .before .before .before .before .args .sheet .now) .text) (c .before .before .before .before .before .before .before .args .text .now))))
+
+pub run-spec : {M : Type 1} → statement M
+run-spec = tie.close (tie.spec (λ c κs. search needs) slice-reshare-prefix-write-all slice-aggregate-write-all (λ c κs. search needs) (λ c. search needs) (λ c. search needs))
