@@ -121,7 +121,8 @@ fn with_event(
     match reply {
         Reply::Refused(refusal) => carryover::refused(refusal),
         Reply::Done => {
-            if folding.count > window.events {
+            let most = window.events;
+            if folding.count > most {
                 return carryover::refused(Refusal::EventBudget);
             }
             folding
