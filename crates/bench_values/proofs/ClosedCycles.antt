@@ -7,7 +7,7 @@ use lib.IntN.{pos, negsuc}
 use lib.Ieee.{Float, fin}
 use Rattle.binary64.specs.Doubles.{plusZero, one}
 use Rattle.linear_pk.specs.LinearPk.{new}
-use Rattle.linear_pk.specs.declared.kernel.Absorption.the-variants.{Absent}
+use Rattle.parameters.specs.declared.Absorption.the-variants.{Absent}
 use Rattle.protocol.specs.declared.Event.{Event}
 use Rattle.protocol.specs.declared.Event.the-variants.{Bolus}
 use Rattle.cycle.specs.Closed.{Timed, stopped, got, Solved}

@@ -14,14 +14,14 @@ use Rattle.matrix.specs.Exponential.{scheme}
 use Rattle.interval.specs.Interval.{entry, propagator}
 use Rattle.linear_pk.specs.LinearPk.{new, stateCount, advance}
 use Rattle.linear_pk.specs.declared.kernel.LinearPk.{LinearPk}
-use Rattle.linear_pk.specs.declared.kernel.Absorption.{Absorption}
-use Rattle.linear_pk.specs.declared.kernel.Absorption.the-variants.{Absent, FirstOrder}
+use Rattle.parameters.specs.declared.Absorption.{Absorption}
+use Rattle.parameters.specs.declared.Absorption.the-variants.{Absent, FirstOrder}
 use Rattle.protocol.specs.Prepare.{prepare}
 use Rattle.protocol.specs.Execute.{Outcome, go, stop, runOf}
 use Rattle.protocol.specs.declared.Event.{Event}
 use Rattle.protocol.specs.declared.Event.the-variants.{Bolus, Infusion, Reset}
 use Rattle.protocol.specs.declared.Window.{Window}
-use Rattle.simulation.specs.KernelRun.{propagatorOf}
+use Rattle.prepared_run.specs.KernelRun.{propagatorOf}
 use Rattle.cycle.specs.Fold.{fold}
 use Rattle.cycle.specs.Closed.{Timed, stopped, then, untimed, Solved, closed}
 

@@ -6,7 +6,6 @@ pub mod Patterns
 pub mod Magnitudes
 pub mod Total
 pub mod Keys
-pub mod Floors
 -- Laws for the crates above, and for sorting in place.
 pub mod Order
 pub mod Differences

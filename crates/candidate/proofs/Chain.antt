@@ -1,14 +1,13 @@
--- The candidate: the system, the runs and elimination; its acceptance, test by test.
+-- The candidate: the system, the runs and elimination.
 use mathlib.Core.Path.{_≡_, sym, ap, _∙_}
-use mathlib.Core.Bool.{true, false, cond}
+use mathlib.Core.Bool.{cond}
 use mathlib.Core.List.{List, []}
 use Prim.Native.Nat.{ℕ, _≤_, _<_}
 use lib.ListN.{getD, take, replicate}
 use lib.Seq.{getD-take}
 use lib.Dec.{eqb}
 use lib.Ieee.{Float, nan, binary64, sub, neg}
-use Rattle.binary64.specs.Doubles.{plusZero, one, nonnegative}
-use Rattle.binary64.specs.Lists.{all}
+use Rattle.binary64.specs.Doubles.{plusZero, one}
 use Rattle.matrix.specs.Matrix.{Matrix, cell, at, table}
 use Rattle.matrix.specs.Arrays.{lead}
 use Rattle.matrix.proofs.Filled.{tabulate-at}
@@ -17,10 +16,9 @@ use Rattle.events.proofs.Scans.{take-replicate}
 use Rattle.protocol.specs.Execute.{Propagator}
 use Rattle.protocol.specs.declared.Event.{Event}
 use Rattle.protocol.specs.declared.Window.{Window}
-use Rattle.cycle.specs.declared.SteadyStateTolerance.{SteadyStateTolerance}
 use Rattle.cycle.specs.Elimination.{systemCell, systemOf, solve}
-use Rattle.cycle.specs.Closed.{stopped, got, then, untimed, lastOf, columnsTo, solution, greatestTo, residualsOf, accepted}
-use Rattle.cycle_run.specs.Ends.{columnsOf}
+use Rattle.cycle.specs.Closed.{stopped, got, untimed, lastOf, columnsTo, solution}
+use Rattle.unit_columns.specs.Columns.{columnsOf}
 
 -- ---- the system: identity minus the columns, whatever stands behind them in the array
 systems : (n : ℕ) (cs : List (List Float)) → table n (systemCell (lead n cs)) ≡ table n (systemCell (columnsOf n cs n))
@@ -51,19 +49,3 @@ module _ (advance : Propagator) (n : ℕ) (w : Window) (fs : List Event) where
     pub solution-solves : {cs : List (List Float)} → got cs ≡ columnsTo advance n w fs n → untimed (solve n (systemOf n cs b)) ≡ solution advance n w fs
     unfolding solution
     solution-solves g = rw (← e, ← g)
-
--- ---- the candidate
-module _ (advance : Propagator) (n : ℕ) (w : Window) (tol : SteadyStateTolerance) (fs : List Event) (a : List Float) where
-  pub candidate-stops : all nonnegative a ≡ false → stopped 34 plusZero ≡ accepted advance n w tol fs a
-  unfolding accepted
-  candidate-stops h = rw h
-
-  module _ (h : all nonnegative a ≡ true) where
-    pub run-stops : {c : ℕ} {t : Float} → stopped c t ≡ lastOf advance n w fs a → stopped c t ≡ accepted advance n w tol fs a
-    unfolding accepted
-    run-stops e = rw (h, ← e)
-
-    pub run-ends : {e : List Float} → got e ≡ lastOf advance n w fs a
-        → then (greatestTo tol a e n) (λ m. got (record { amounts = a; residuals = residualsOf n a e; greatest = m })) ≡ accepted advance n w tol fs a
-    unfolding accepted
-    run-ends e = rw (h, ← e)

@@ -9,7 +9,7 @@ ghost use Rattle.kernel_cells.specs.Cells.{kernelAt};
 ghost use Rattle.simulate_words.specs.Run.{windowOf};
 ghost use Rattle.cycle.specs.Closed.{steadyReplyOf, answerAtExit};
 ghost use Rattle.cycle_words.specs.Words.{foldWords, cellsOf};
-ghost use Rattle.periodic.specs.Entry.{steadyRoom};
+ghost use Rattle.steady_reply.specs.Entry.{steadyRoom};
 ghost use Rattle.steady_words.specs.Words.{steadyWords};
 
 #[no_mangle]
@@ -41,7 +41,7 @@ pub extern "C" fn linear_pk_normalize_periodic_cycle(
         outputs: output_budget,
     };
     let told = cycle_words::fold_words(
-        kernel_cells::kernel_at(kernel),
+        kernel_reading::kernel_at(kernel),
         window,
         events,
         samples,
@@ -88,7 +88,7 @@ pub extern "C" fn linear_pk_periodic_steady_state(
     };
     let tolerance = SteadyStateTolerance { absolute, relative };
     let told = steady_words::steady_words(
-        kernel_cells::kernel_at(kernel),
+        kernel_reading::kernel_at(kernel),
         window,
         events,
         samples,

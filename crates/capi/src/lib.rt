@@ -30,7 +30,7 @@ pub extern "C" fn linear_pk_new(
 pub extern "C" fn linear_pk_state_count(kernel: &[f64]) -> u64
     ensures { λ r. ⌜ r ≡ stateCount (kernelAt (now (kernel .entry))) ⌝ }
 {
-    kernel_cells::kernel_at(kernel).state_count() as u64
+    kernel_reading::kernel_at(kernel).state_count() as u64
 }
 
 #[no_mangle]
@@ -44,7 +44,7 @@ pub extern "C" fn linear_pk_advance(
     ensures { λ r. ⌜ r ≡ number (advance scheme (kernelAt (now (kernel .entry))) (now (amounts .entry)) (now (rates .entry)) duration (length (now (result .entry)))) ⌝ }
     ensures { λ r. ⌜ now (result .exit) ≡ laid (advance scheme (kernelAt (now (kernel .entry))) (now (amounts .entry)) (now (rates .entry)) duration (length (now (result .entry)))) (now (result .entry)) ⌝ }
 {
-    refusal::number(kernel_cells::kernel_at(kernel).advance(amounts, rates, duration, result))
+    refusal::number(kernel_reading::kernel_at(kernel).advance(amounts, rates, duration, result))
 }
 
 #[no_mangle]
@@ -56,7 +56,7 @@ pub extern "C" fn linear_pk_concentrations(
     ensures { λ r. ⌜ r ≡ number (concentrations (kernelAt (now (kernel .entry))) (now (amounts .entry)) (length (now (result .entry)))) ⌝ }
     ensures { λ r. ⌜ now (result .exit) ≡ laid (concentrations (kernelAt (now (kernel .entry))) (now (amounts .entry)) (length (now (result .entry)))) (now (result .entry)) ⌝ }
 {
-    refusal::number(kernel_cells::kernel_at(kernel).concentrations(amounts, result))
+    refusal::number(kernel_reading::kernel_at(kernel).concentrations(amounts, result))
 }
 
 #[no_mangle]

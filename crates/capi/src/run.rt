@@ -6,7 +6,7 @@ ghost use Rattle.linear_pk.specs.LinearPk.{stateCount};
 ghost use Rattle.layout.specs.Layout.{eventsOf};
 ghost use Rattle.protocol.specs.Prepare.{reckoned};
 ghost use Rattle.protocol.specs.Entry.{replyOf, timesAtExit, sidesAtExit, valuesAtExit};
-ghost use Rattle.simulation.specs.Entries.{room};
+ghost use Rattle.run_report.specs.Replies.{room};
 ghost use Rattle.kernel_cells.specs.Cells.{kernelAt};
 ghost use Rattle.simulate_words.specs.Run.{windowOf, simulateWords};
 
@@ -49,7 +49,7 @@ pub extern "C" fn linear_pk_simulate(
         outputs: output_budget,
     };
     let told = simulate_words::simulate_words(
-        kernel_cells::kernel_at(kernel),
+        kernel_reading::kernel_at(kernel),
         amounts,
         window,
         events,

@@ -1,7 +1,7 @@
 // The C interface of the closed cycle of a sheet.
 ghost use mathlib.Core.Path.{_≡_};
 ghost use Rattle.printout.specs.Cells.{printed, printedLength};
-ghost use Rattle.rig.specs.Rig.{numberInto};
+ghost use Rattle.printout_reply.specs.Printouts.{numberInto};
 ghost use Rattle.steady_sheet.specs.SteadySheet.{steadyPrintoutOfBytes};
 
 #[no_mangle]

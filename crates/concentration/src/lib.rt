@@ -1,8 +1,8 @@
 // Amounts by volume.
-use interval::Test;
 use mammillary::VOLUMES;
 use refusal::Refusal;
 use refusal::Reply;
+use value_tests::Test;
 ghost use mathlib.Core.Path.{_≡_};
 ghost use Prim.Native.Nat.{_≤_, _<_, _+_};
 ghost use lib.ListN.{length, take};
@@ -49,7 +49,7 @@ pub fn concentrations(
     ensures { λ r. ⌜ replyNumber r ≡ number (concentrationsOf n count depot volumes (now (amounts .entry)) (length (now (result .entry)))) ⌝ }
     ensures { λ r. ⌜ now (result .exit) ≡ laid (concentrationsOf n count depot volumes (now (amounts .entry)) (length (now (result .entry)))) (now (result .entry)) ⌝ }
 {
-    if !interval::amounts_pass(n, amounts) {
+    if !value_tests::amounts_pass(n, amounts) {
         return Reply::Refused(Refusal::Argument);
     }
     if result.len() < count {
@@ -57,7 +57,7 @@ pub fn concentrations(
     }
     let list = listed(depot, volumes, amounts, count);
     let values = &list[..count];
-    if !interval::all_pass(Test::Finite, values) {
+    if !value_tests::all_pass(Test::Finite, values) {
         return Reply::Refused(Refusal::ConcentrationNotFinite);
     }
     interval::lay(values, result);

@@ -1,7 +1,7 @@
 // What is ahead of the runs of a closed cycle: its tolerances, the fold, and the preparation on the divided budgets.
-use carryover::Folding;
 use cycle::SteadyStateTolerance;
 use events::EVENTS;
+use fold_reply::Folding;
 use protocol::Window;
 use refusal::Refusal;
 use refusal::Reply;
@@ -37,9 +37,9 @@ pub fn prepare_periodic_steady_state(
     ensures { λ r. ⌜ r .count ≤ 192 ⌝ }
 {
     if !tolerance_passes(tolerance) {
-        return carryover::refused(Refusal::Tolerance);
+        return fold_reply::refused(Refusal::Tolerance);
     }
-    let folding = steady_state::folded(
+    let folding = cycle_fold::folded(
         n,
         window,
         samples,
@@ -51,11 +51,11 @@ pub fn prepare_periodic_steady_state(
     );
     let reply = folding.reply;
     match reply {
-        Reply::Refused(refusal) => carryover::refused(refusal),
+        Reply::Refused(refusal) => fold_reply::refused(refusal),
         Reply::Done => {
             let places = folding.count;
             let none = [0.0f64; 1];
-            let budgets = cycle_run::divided(n, window);
+            let budgets = cycle_inputs::divided(n, window);
             let prepared = preparation::prepared(
                 n,
                 budgets,
@@ -65,7 +65,7 @@ pub fn prepare_periodic_steady_state(
                 places,
             );
             match prepared {
-                Reply::Refused(refusal) => carryover::refused(refusal),
+                Reply::Refused(refusal) => fold_reply::refused(refusal),
                 Reply::Done => folding,
             }
         }

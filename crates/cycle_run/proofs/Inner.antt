@@ -20,7 +20,7 @@ use Rattle.rows.specs.Written.{Cells, Room}
 use Rattle.rows.specs.Told.{Told, told, behindOf, after, Ran, kernelAdvance}
 use Rattle.rows.specs.declared.Progress.{Progress}
 use Rattle.simulate_matrix.specs.Started.{started}
-use Rattle.simulation.specs.KernelRun.{propagatorOf}
+use Rattle.prepared_run.specs.KernelRun.{propagatorOf}
 use Rattle.cycle.specs.Closed.{Timed, stopped, got, divided, endOf, lastOf}
 use Rattle.cycle.proofs.InnerRuns.{run-leaves}
 use Rattle.cycle_run.specs.Ends.{Runs}

@@ -20,21 +20,23 @@ use Rattle.matrix.specs.Matrix.{cell, tabulate}
 use Rattle.matrix.proofs.Filled.{tabulate-length, tabulate-at}
 use Rattle.layout.specs.Layout.{eventCount}
 use Rattle.sheet.specs.Sheet.{Sheet, readSheet}
-use Rattle.sheet.specs.Values.{modelOf}
+use Rattle.sheet_kernel.specs.Values.{modelOf}
 use Rattle.sheet.proofs.Reading.{read-limits}
 use Rattle.printout.specs.Printout.{bitsOf, refusedText}
 use Rattle.printout.proofs.Lengths.{places-most, refused-text-length}
 use Rattle.cycle.specs.declared.SteadyStateTolerance.{SteadyStateTolerance}
 use Rattle.cycle.specs.Closed.{Timed, stopped, got, then, untimed, scaleOf, scaledOf, residualsOf, Solved}
 use Rattle.cycle.proofs.Results.{no-answer, same-answer}
-use Rattle.rig.proofs.Amounts.{few-states}
-use Rattle.steady_sheet.specs.SteadySheet.{toleranceOf, steadyWith, steadySheet, steadyOfBytes}
+use Rattle.sheet_run.proofs.Amounts.{few-states}
+use Rattle.cycle_tolerance.specs.CycleTolerance.{toleranceOf}
+use Rattle.sheet_cycle.specs.SheetCycle.{steadyWith}
+use Rattle.steady_sheet.specs.SteadySheet.{steadySheet, steadyOfBytes}
 use Rattle.steady_sheet.proofs.Kernels.{model-sound}
 use Rattle.cycle_printout.specs.CyclePrintout.{NextCycle, stateCloses, closes, linesText, cycleText}
 use Rattle.cycle_printout.proofs.Lines.{text-length}
-use Rattle.next_cycle.specs.NextCycle.{nextWith}
-use Rattle.next_cycle.proofs.Next.{accepts, sized, end, next-ends, answers, end-width}
-use Rattle.next_cycle.proofs.Printing.{next-stops}
+use Rattle.next_run.specs.NextRun.{nextWith}
+use Rattle.next_run.proofs.Next.{accepts, sized, end, next-ends, answers, end-width}
+use Rattle.next_cycle.proofs.Refusals.{next-stops}
 use Rattle.cycle_sheet.specs.CycleSheet.{nextSheet, nextOfBytes, NextCloses, EveryNextCycleCloses, mostCycleBytes, EveryCyclePrintoutFits}
 
 holds : (b : Bool) → T b → b ≡ true

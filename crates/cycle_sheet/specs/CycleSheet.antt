@@ -7,12 +7,13 @@ use lib.ListN.{length}
 use lib.Ieee.{Float}
 use Rattle.linear_pk.specs.declared.kernel.LinearPk.{LinearPk}
 use Rattle.sheet.specs.Sheet.{Sheet, readSheet}
-use Rattle.sheet.specs.Values.{modelOf}
+use Rattle.sheet_kernel.specs.Values.{modelOf}
 use Rattle.cycle.specs.Closed.{Timed, stopped, got, then, untimed, Solved}
-use Rattle.rig.specs.Rig.{Printout}
+use Rattle.printout_reply.specs.Printouts.{Printout}
 use Rattle.steady_sheet.specs.SteadySheet.{steadyOfBytes}
 use Rattle.cycle_printout.specs.CyclePrintout.{NextCycle, closes}
-use Rattle.next_cycle.specs.NextCycle.{nextWith, cyclePrintout}
+use Rattle.next_run.specs.NextRun.{nextWith}
+use Rattle.next_printout.specs.NextPrintout.{cyclePrintout}
 
 -- the model's 1 and 2 ahead, and the reader's 40 and 5 ahead of them
 unfoldable pub nextSheet : Sheet → Timed NextCycle

@@ -1,8 +1,9 @@
 // One more cycle from the amounts of a sheet's closed one: its bytes in, the bytes of its printout out.
 use linear_pk::LinearPk;
 use next_cycle::next_bodies;
+use printout_reply::PrintReply;
 use refusal::Reply;
-use rig::PrintReply;
+use sheet_cells::sample_cells;
 ghost use mathlib.Core.Path.{_≡_};
 ghost use mathlib.Core.Bool.{true};
 ghost use mathlib.Core.List.{[]};
@@ -12,14 +13,13 @@ ghost use Rattle.refusal.specs.Result.{done};
 ghost use Rattle.linear_pk.specs.LinearPk.{sound};
 ghost use Rattle.printout.specs.Cells.{printed, printedLength};
 ghost use Rattle.sheet.specs.Sheet.{wordsOf, modelFits};
-ghost use Rattle.rig.specs.Rig.{numberInto};
-ghost use Rattle.rig.specs.Replies.{Prints};
-ghost use Rattle.next_cycle.specs.NextCycle.{nextWith, cyclePrintout};
+ghost use Rattle.printout_reply.specs.Printouts.{numberInto};
+ghost use Rattle.printout_reply.specs.Replies.{Prints};
+ghost use Rattle.next_run.specs.NextRun.{nextWith};
+ghost use Rattle.next_printout.specs.NextPrintout.{cyclePrintout};
 ghost use Rattle.cycle_sheet.specs.CycleSheet.{nextSheet, cyclePrintoutOfBytes};
 
-// The most samples of a sheet, and the most states of a kernel.
-const SAMPLES: usize = 256;
-
+// The most states of a kernel.
 const STATES: usize = 4;
 
 // The most rows of a cycle: four for each of 192 events, and two. The most amounts of those rows.
@@ -27,13 +27,7 @@ const ROWS: usize = 770;
 
 const VALUES: usize = 3080;
 
-// Cells for samples, and for the rows of a cycle. What they hold is of no matter.
-fn sample_cells() -> [f64; SAMPLES]
-    ensures { λ r. ⌜ 256 ≡ length r ⌝ }
-{
-    [0.0; SAMPLES]
-}
-
+// Cells for the rows of a cycle. What they hold is of no matter.
 fn time_cells() -> [f64; ROWS]
     ensures { λ r. ⌜ 770 ≡ length r ⌝ }
 {
@@ -98,11 +92,11 @@ fn print_sheet(
     ensures { λ r. ⌜ Prints (cyclePrintout (nextSheet (record { model = wordsOf (now (model .entry)); window = wordsOf (now (window .entry)); amounts = []; samples = wordsOf (now (samples .entry)); events = wordsOf (now (events .entry)) })))
         (now (out .entry)) r (now (out .exit)) ⌝ }
 {
-    let made = sheet::kernel_of(model);
+    let made = sheet_kernel::kernel_of(model);
     let reply = made.reply;
     match reply {
         Reply::Refused(refusal) => {
-            rig::print_refusal(refusal::number(Reply::Refused(refusal)), out)
+            printout_reply::print_refusal(refusal::number(Reply::Refused(refusal)), out)
         }
         Reply::Done => {
             let kernel = made.kernel;
@@ -120,7 +114,7 @@ pub fn cycle_sheet(bytes: &[u8], out: &mut [u8]) -> PrintReply
     let read = sheet::read_sheet(bytes);
     let number = read.number;
     if number != 0 {
-        return rig::print_refusal(number, out);
+        return printout_reply::print_refusal(number, out);
     }
     let places = read.places;
     print_sheet(

@@ -24,10 +24,10 @@ use Rattle.protocol.specs.Entry.{mostEvents, Room, ahead, Reply, replyOf, value
 use Rattle.protocol.specs.PlainRun.{PlainRun, EndRow, rowsLeft}
 use Rattle.protocol.proofs.EntryLaws.{simulate-runs, n-each, row-place}
 use Rattle.preparation.specs.Preparation.{ownNumber}
-use Rattle.simulation.specs.KernelRun.{propagatorOf}
+use Rattle.prepared_run.specs.KernelRun.{propagatorOf}
 use Rattle.simulation.specs.Entries.{room, simulateEntry, reported}
-use Rattle.simulation.specs.declared.Report.{Report}
-use Rattle.simulation.proofs.KernelRuns.{kernel-run}
+use Rattle.run_report.specs.declared.Report.{Report}
+use Rattle.prepared_run.proofs.KernelRuns.{kernel-run}
 use Rattle.cycle.specs.Closed.{Timed, got, divided, lastPost, endOf, lastOf}
 use Rattle.cycle.proofs.InnerRuns.{run-leaves}
 use Rattle.cycle_simulation.specs.Goes.{Goes}

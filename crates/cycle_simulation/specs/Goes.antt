@@ -13,7 +13,7 @@ use Rattle.protocol.specs.declared.Event.{Event}
 use Rattle.protocol.specs.declared.Window.{Window}
 use Rattle.protocol.specs.Execute.{State, go, runOf}
 use Rattle.protocol.specs.PlainRun.{Prepared}
-use Rattle.simulation.specs.KernelRun.{propagatorOf}
+use Rattle.prepared_run.specs.KernelRun.{propagatorOf}
 use Rattle.cycle.specs.Closed.{divided}
 
 -- a kernel and a prepared list, whose run from the amounts a, on the divided budgets and without samples, reaches the end

@@ -7,7 +7,7 @@ ghost use mathlib.Core.Path.{_≡_};
 ghost use Prim.Native.Nat.{_+_, _≤_};
 ghost use lib.ListN.{length, take, drop};
 ghost use Rattle.linear_pk.specs.LinearPk.{stateCount};
-ghost use Rattle.simulation.specs.KernelRun.{propagatorOf};
+ghost use Rattle.prepared_run.specs.KernelRun.{propagatorOf};
 ghost use Rattle.cycle.specs.Closed.{got, lastOf};
 ghost use Rattle.cycle_simulation.specs.Goes.{Goes};
 
@@ -29,8 +29,8 @@ pub fn simulate_cycle(
 {
     let n = kernel.state_count();
     let none = [0.0f64; 1];
-    let span = cycle_run::divided(n, window);
-    let report = simulation::report_of(simulation::simulate(
+    let span = cycle_inputs::divided(n, window);
+    let report = run_report::report_of(simulation::simulate(
         kernel,
         amounts,
         span,

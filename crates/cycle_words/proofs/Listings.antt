@@ -30,8 +30,8 @@ use Rattle.protocol.specs.declared.Event.the-variants.{Bolus, Infusion, Reset}
 use Rattle.protocol.specs.declared.Window.{Window}
 use Rattle.cycle.specs.Fold.{mostCycleEvents}
 use Rattle.steady_state.specs.Entry.{foldEntry, filled, eventIn, Answer, answerOf, told}
-use Rattle.steady_state.specs.declared.entry.Listed.{Listed}
-use Rattle.steady_state.specs.declared.entry.FoldedCycle.{FoldedCycle}
+use Rattle.cycle_list.specs.declared.Listed.{Listed}
+use Rattle.cycle_list.specs.declared.FoldedCycle.{FoldedCycle}
 use Rattle.steady_state.proofs.Listing.{over-count}
 use Rattle.cycle_words.specs.Words.{foldWords, cellsOf}
 

@@ -1,9 +1,9 @@
 // The folded cycle over words, six to an event, for the C interface.
+use cycle_list::Listed;
 use events::EVENTS;
 use linear_pk::LinearPk;
 use protocol::Window;
 use refusal::Reply;
-use steady_state::Listed;
 ghost use mathlib.Core.Path.{_≡_};
 ghost use mathlib.Core.List.{[], map};
 ghost use Prim.Native.Nat.{_≤_, _*_};
@@ -11,7 +11,7 @@ ghost use lib.ListN.{length, take};
 ghost use Rattle.refusal.specs.Result.{number, valueOr};
 ghost use Rattle.printout.specs.Cells.{Wrote};
 ghost use Rattle.event_words.specs.Words.{listWords};
-ghost use Rattle.steady_state.specs.Entry.{eventIn};
+ghost use Rattle.cycle_list.specs.Answers.{eventIn};
 ghost use Rattle.cycle_words.specs.Words.{foldWords, cellsOf};
 
 // Words of an event.

@@ -1,8 +1,8 @@
 -- Demand 3: `demand-3`. Assumes nothing.
 use Rattle.linear_pk.specs.LinearPk.{stateCount}
 use Rattle.protocol.proofs.Theorems.{samples-apart}
-use Rattle.simulation.specs.KernelRun.{propagatorOf}
-use Rattle.simulation.proofs.KernelRuns.{kernel-laws, kernel-run}
+use Rattle.prepared_run.specs.KernelRun.{propagatorOf}
+use Rattle.prepared_run.proofs.KernelRuns.{kernel-laws, kernel-run}
 use Rattle.cycle.proofs.Theorems.{closed-cycle}
 use Rattle.demand_3.specs.Demand3.{Demand3}
 

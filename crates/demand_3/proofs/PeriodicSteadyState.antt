@@ -16,13 +16,13 @@ use Rattle.matrix.proofs.Filled.{tabulate-length}
 use Rattle.protocol.specs.Entry.{mostSamples}
 use Rattle.protocol.specs.PlainRun.{oneOf}
 use Rattle.protocol.proofs.ListLaws.{or-right}
-use Rattle.simulation.specs.KernelRun.{propagatorOf}
+use Rattle.prepared_run.specs.KernelRun.{propagatorOf}
 use Rattle.cycle.specs.Fold.{mostCycleEvents}
 use Rattle.cycle.specs.Elimination.{System, leastPivot, eliminateTo, solveTo, solve}
 use Rattle.cycle.specs.Closed.{Timed, stopped, got, lastPost, residualsOf, Solved, closed, SteadyReply, steadyReplyOf, answerAtExit}
 use Rattle.cycle.specs.ClosedCycle.{closedNumbers, Answers, ClosedCycle}
-use Rattle.periodic.specs.Entry.{steadyEntry, steadyReply}
-use Rattle.periodic.specs.declared.SteadyReply as P
+use Rattle.steady_reply.specs.Entry.{steadyEntry, steadyReply}
+use Rattle.steady_reply.specs.declared.SteadyReply as P
 use Rattle.demand_3.specs.PeriodicSteadyState.{Slices, Call, states, listed, entryOf, Contract, Passed, candidate, YieldsOn, AcceptsOn, AtAnswer, AtRefusal, Replied, EverySteadyState}
 use Rattle.demand_3.proofs.Demand3.{demand-3}
 use Rattle.demand_3.proofs.Simulate.{not-zero}

@@ -27,9 +27,9 @@ use Rattle.protocol.specs.SamplesApart.{SamplesApart}
 use Rattle.protocol.proofs.ListLaws.{or-right}
 use Rattle.protocol.proofs.EntryLaws.{Passes, ahead-none, simulate-runs, simulate-refuses}
 use Rattle.preparation.specs.Preparation.{ownNumber}
-use Rattle.simulation.specs.KernelRun.{propagatorOf}
+use Rattle.prepared_run.specs.KernelRun.{propagatorOf}
 use Rattle.simulation.specs.Entries.{simulateEntry, runReply}
-use Rattle.simulation.specs.declared.RunReply.{RunReply}
+use Rattle.run_report.specs.declared.RunReply.{RunReply}
 use Rattle.demand_3.specs.Simulate.{Slices, Call, states, listed, reckonedRows, cells, entryOf, AtExit, Contract, TimesFit, Passed, runOn, FirstMetOn, AtEnd, AtStop, Replied, Apart, EverySimulate}
 use Rattle.demand_3.proofs.Demand3.{demand-3}
 

@@ -8,7 +8,7 @@ use Rattle.linear_pk.specs.declared.kernel.LinearPk.{LinearPk}
 use Rattle.protocol.specs.SamplesApart.{EverySamplesApart}
 use Rattle.protocol.specs.declared.Event.{Event}
 use Rattle.protocol.specs.declared.Window.{Window}
-use Rattle.simulation.specs.KernelRun.{propagatorOf, EveryKernelRun}
+use Rattle.prepared_run.specs.KernelRun.{propagatorOf, EveryKernelRun}
 use Rattle.cycle.specs.declared.SteadyStateTolerance.{SteadyStateTolerance}
 use Rattle.cycle.specs.ClosedCycle.{TimesFit, ClosedCycle}
 

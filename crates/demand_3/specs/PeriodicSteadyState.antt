@@ -14,13 +14,13 @@ use Rattle.protocol.specs.declared.Event.{Event}
 use Rattle.protocol.specs.declared.Window.{Window}
 use Rattle.protocol.specs.Entry.{mostSamples}
 use Rattle.protocol.specs.PlainRun.{oneOf, Reached}
-use Rattle.simulation.specs.KernelRun.{propagatorOf}
+use Rattle.prepared_run.specs.KernelRun.{propagatorOf}
 use Rattle.cycle.specs.declared.SteadyStateTolerance.{SteadyStateTolerance}
 use Rattle.cycle.specs.Fold.{mostCycleEvents}
 use Rattle.cycle.specs.Closed.{Timed, stopped, divided, lastPost, candidateOf, residualsOf, Solved, steadyReplyOf, answerAtExit}
 use Rattle.cycle.specs.ClosedCycle.{TimesFit, closedNumbers, Yields, Accepts, largestTo}
-use Rattle.periodic.specs.Entry.{steadyRoom, steadyEntry, steadyReply}
-use Rattle.periodic.specs.declared.SteadyReply.{SteadyReply}
+use Rattle.steady_reply.specs.Entry.{steadyRoom, steadyEntry, steadyReply}
+use Rattle.steady_reply.specs.declared.SteadyReply.{SteadyReply}
 
 -- ---- a call
 -- the cells of the lent slices

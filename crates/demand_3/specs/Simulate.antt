@@ -22,9 +22,9 @@ use Rattle.protocol.specs.Entry.{mostEvents, Room, ahead, replyOf, laid, timesA
 use Rattle.protocol.specs.PlainRun.{oneOf, Cycle, FirstMet, advancesBy, Reached}
 use Rattle.protocol.specs.SamplesApart.{SamplesApart}
 use Rattle.preparation.specs.Preparation.{ownNumber}
-use Rattle.simulation.specs.KernelRun.{propagatorOf}
+use Rattle.prepared_run.specs.KernelRun.{propagatorOf}
 use Rattle.simulation.specs.Entries.{room, simulateEntry, runReply}
-use Rattle.simulation.specs.declared.RunReply.{RunReply}
+use Rattle.run_report.specs.declared.RunReply.{RunReply}
 
 -- ---- a call
 -- the cells of the lent slices

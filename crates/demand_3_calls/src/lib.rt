@@ -2,10 +2,10 @@
 use cycle::SteadyStateTolerance;
 use events::EVENTS;
 use linear_pk::LinearPk;
-use periodic::SteadyReply;
 use protocol::Event;
 use protocol::Window;
-use simulation::RunReply;
+use run_report::RunReply;
+use steady_reply::SteadyReply;
 ghost use Rattle.demand_3.specs.Simulate as S;
 ghost use Rattle.demand_3.specs.PeriodicSteadyState as P;
 

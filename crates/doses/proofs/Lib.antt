@@ -1,3 +1,2 @@
 pub mod Doses
 pub mod Chains
-pub mod Boluses

@@ -1,40 +1,19 @@
 // Gaussian elimination with partial pivoting and back substitution, in arrays of which the leading n by n part is in use.
-mod pivot;
-mod right;
-mod substitution;
-mod table;
-
 use matrix::STATES;
+use reduction::exchanged;
+use reduction::right;
+use reduction::table;
+use reduction::table::Cells;
 use refusal::Refusal;
 use refusal::Reply;
-use table::Cells;
+use system_entries::at;
 ghost use mathlib.Core.Path.{_≡_};
-ghost use mathlib.Core.List.{[]};
-ghost use Prim.Native.Nat.{_≤_, _<_};
-ghost use lib.ListN.{length, take};
-ghost use Rattle.matrix.specs.Matrix.{at as atOf, table as tableOf};
+ghost use Prim.Native.Nat.{_≤_};
+ghost use lib.ListN.{take};
+ghost use Rattle.matrix.specs.Matrix.{table as tableOf};
 ghost use Rattle.matrix.specs.Arrays.{lead};
 ghost use Rattle.refusal.specs.Numbers.{resultOf};
-ghost use Rattle.cycle.specs.Elimination.{swapped, systemCell, solve as solveOf};
-
-// The entry at row i, column j.
-fn at(a: &[[f64; STATES]; STATES], i: usize, j: usize) -> f64
-    requires { ⌜ (i < 4) × (j < 4) ⌝ }
-    ensures { λ r. ⌜ r ≡ atOf (now (a .entry)) i j ⌝ }
-{
-    a[i][j]
-}
-
-// Rows k and p exchanged. An array has as many rows as its type says.
-fn exchanged(a: [[f64; STATES]; STATES], k: usize, p: usize) -> [[f64; STATES]; STATES]
-    requires { ⌜ (k < 4) × (p < 4) ⌝ }
-    ensures { λ r. ⌜ (r ≡ swapped [] k p a) × (length a ≡ 4) ⌝ }
-{
-    let mut rows = a;
-    rows[k] = a[p];
-    rows[p] = a[k];
-    rows
-}
+ghost use Rattle.cycle.specs.Elimination.{systemCell, solve as solveOf};
 
 // The system of a cycle: identity minus the columns, of which columns has one in each row.
 pub fn system(n: usize, columns: &[[f64; STATES]; STATES]) -> [[f64; STATES]; STATES]

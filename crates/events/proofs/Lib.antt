@@ -1,4 +1,2 @@
 pub mod Packing
 pub mod Scans
-pub mod Marking
-pub mod Laying

@@ -1,19 +1,93 @@
-// Lists of events in arrays of numbers, and what a run asks of them.
-mod bounds;
-mod packed;
-mod scan;
-
-pub use bounds::boundaries;
-pub use packed::event_at;
-pub use packed::no_event;
-pub use packed::pack;
-pub use packed::put;
-pub use packed::target_of;
-pub use packed::time_of;
-pub use scan::has_event;
-pub use scan::mark;
-pub use scan::summed_rates;
-pub use sorted_times::sorted_unique;
+// Events in arrays of numbers. An array of events cannot be lent, and passing one by value copies it whole: the list that a run is given is packed once.
+use protocol::Event;
+ghost use mathlib.Core.Path.{_≡_};
+ghost use Prim.Native.Nat.{_<_};
+ghost use Rattle.protocol.specs.Events.{time as timeOf, target as targetOf};
+ghost use Rattle.events.specs.Packed.{eventAt};
 
 // The most events of a run's list.
 pub const EVENTS: usize = 192;
+
+// The event at place i.
+pub fn event_at(reals: &[[f64; 3]; EVENTS], words: &[[usize; 4]; EVENTS], i: usize) -> Event
+    requires { ⌜ i < 192 ⌝ }
+    ensures { λ r. ⌜ r ≡ eventAt (now (reals .entry)) (now (words .entry)) i ⌝ }
+{
+    let kind = words[i][0];
+    let target = words[i][1];
+    let time = reals[i][0];
+    let amount = reals[i][1];
+    if kind == 0 {
+        return Event::Bolus {
+            time,
+            target,
+            amount,
+        };
+    }
+    if kind == 1 {
+        return Event::Infusion {
+            time,
+            target,
+            amount,
+            duration: reals[i][2],
+        };
+    }
+    let order = (words[i][2] % 65536) as u16;
+    Event::Reset {
+        time,
+        target,
+        value: amount,
+        order,
+        stops: words[i][3] == 1,
+    }
+}
+
+pub fn time_of(event: Event) -> f64
+    ensures { λ r. ⌜ r ≡ timeOf event ⌝ }
+{
+    match event {
+        Event::Bolus {
+            time,
+            target: _,
+            amount: _,
+        } => time,
+        Event::Infusion {
+            time,
+            target: _,
+            amount: _,
+            duration: _,
+        } => time,
+        Event::Reset {
+            time,
+            target: _,
+            value: _,
+            order: _,
+            stops: _,
+        } => time,
+    }
+}
+
+pub fn target_of(event: Event) -> usize
+    ensures { λ r. ⌜ r ≡ targetOf event ⌝ }
+{
+    match event {
+        Event::Bolus {
+            time: _,
+            target,
+            amount: _,
+        } => target,
+        Event::Infusion {
+            time: _,
+            target,
+            amount: _,
+            duration: _,
+        } => target,
+        Event::Reset {
+            time: _,
+            target,
+            value: _,
+            order: _,
+            stops: _,
+        } => target,
+    }
+}

@@ -8,7 +8,7 @@ use Rattle.refusal.specs.Result.{refused, done, unless}
 use Rattle.matrix.specs.Matrix.{tabulate}
 use Rattle.linear_pk.specs.LinearPk.{new, bind}
 use Rattle.linear_pk.specs.declared.kernel.LinearPk.{LinearPk}
-use Rattle.linear_pk.specs.declared.kernel.Absorption.{Absorption}
+use Rattle.parameters.specs.declared.Absorption.{Absorption}
 use Rattle.linear_pk.specs.declared.bind.BoundLinearPk.{BoundLinearPk}
 use Rattle.kernel_cells.specs.Cells.{kernelLength, boundLength, kernelCell, boundCell, newCells, bindCells}
 

@@ -1,154 +1,15 @@
 // A kernel and a bound kernel as cells, doubles in a slice.
-use linear_pk::Absorption;
+use kernel_reading::KERNEL;
+use kernel_writing::BOUND;
 use linear_pk::Bound;
-use linear_pk::BoundLinearPk;
 use linear_pk::LinearPk;
 use linear_pk::Made;
 use refusal::Refusal;
 use refusal::Reply;
 ghost use mathlib.Core.Path.{_≡_};
-ghost use Prim.Native.Nat.{_<_, _≤_, _+_};
 ghost use lib.ListN.{length};
 ghost use Rattle.refusal.specs.Result.{number, laid};
-ghost use Rattle.matrix.specs.Matrix.{tabulate, cell};
-ghost use Rattle.linear_pk.specs.LinearPk.{noKernel};
-ghost use Rattle.kernel_cells.specs.Cells.{absorptionOf, countCell, kernelCell, boundCell, countAt, kernelAt, newCells, bindCells};
-
-// The cells of a kernel and of a bound kernel.
-const KERNEL: usize = 21;
-
-const BOUND: usize = 25;
-
-fn absorption_of(depot: bool, absorption: f64) -> Absorption
-    ensures { λ r. ⌜ r ≡ absorptionOf depot absorption ⌝ }
-{
-    if depot {
-        Absorption::FirstOrder(absorption)
-    } else {
-        Absorption::Absent
-    }
-}
-
-fn count_cell(n: usize) -> f64
-    ensures { λ r. ⌜ r ≡ countCell n ⌝ }
-{
-    if n == 1 {
-        return 1.0;
-    }
-    if n == 2 {
-        return 2.0;
-    }
-    if n == 3 { 3.0 } else { 0.0 }
-}
-
-fn kernel_cell(kernel: LinearPk, i: usize) -> f64
-    requires { ⌜ i < 21 ⌝ }
-    ensures { λ r. ⌜ r ≡ kernelCell kernel i ⌝ }
-{
-    if i == 0 {
-        return count_cell(kernel.compartments);
-    }
-    if i == 1 {
-        if kernel.depot {
-            return 1.0;
-        }
-        return 0.0;
-    }
-    if i < 5 {
-        let v = i - 2;
-        return kernel.volumes[v];
-    }
-    let c = i - 5;
-    kernel.rates[c]
-}
-
-fn kernel_cells(kernel: LinearPk) -> [f64; KERNEL]
-    ensures { λ r. ⌜ r ≡ tabulate 21 (kernelCell kernel) ⌝ }
-{
-    let mut cells = [0.0f64; KERNEL];
-    for i in 0..KERNEL {
-        cells[i] = kernel_cell(kernel, i);
-    }
-    cells
-}
-
-fn bound_cell(bound: BoundLinearPk, i: usize) -> f64
-    requires { ⌜ i < 25 ⌝ }
-    ensures { λ r. ⌜ r ≡ boundCell bound i ⌝ }
-{
-    if i < KERNEL {
-        let kernel = bound.kernel;
-        return kernel_cell(kernel, i);
-    }
-    let at = i - KERNEL;
-    bound.initial[at]
-}
-
-fn bound_cells(bound: BoundLinearPk) -> [f64; BOUND]
-    ensures { λ r. ⌜ r ≡ tabulate 25 (boundCell bound) ⌝ }
-{
-    let mut cells = [0.0f64; BOUND];
-    for i in 0..BOUND {
-        cells[i] = bound_cell(bound, i);
-    }
-    cells
-}
-
-fn count_at(x: f64) -> usize
-    ensures { λ r. ⌜ r ≡ countAt x ⌝ }
-{
-    if x == 1.0 {
-        return 1;
-    }
-    if x == 2.0 {
-        return 2;
-    }
-    if x == 3.0 { 3 } else { 0 }
-}
-
-fn volumes_at(cells: &[f64]) -> [f64; 3]
-    requires { ⌜ 21 ≤ length (now cells) ⌝ }
-    ensures { λ r. ⌜ r ≡ tabulate 3 (λ i. cell (now (cells .entry)) (i + 2)) ⌝ }
-{
-    let mut list = [0.0f64; 3];
-    for i in 0..3 {
-        list[i] = cells[i + 2];
-    }
-    list
-}
-
-fn rates_at(cells: &[f64]) -> [f64; 16]
-    requires { ⌜ 21 ≤ length (now cells) ⌝ }
-    ensures { λ r. ⌜ r ≡ tabulate 16 (λ i. cell (now (cells .entry)) (i + 5)) ⌝ }
-{
-    let mut list = [0.0f64; 16];
-    for i in 0..16 {
-        list[i] = cells[i + 5];
-    }
-    list
-}
-
-// The kernel that cells hold; one of no volumes where they hold none.
-pub fn kernel_at(cells: &[f64]) -> LinearPk
-    ensures { λ r. ⌜ r ≡ kernelAt (now (cells .entry)) ⌝ }
-{
-    if cells.len() < KERNEL {
-        return linear_pk::none();
-    }
-    let depot = cells[1];
-    if !((depot == 0.0) | (depot == 1.0)) {
-        return linear_pk::none();
-    }
-    let compartments = count_at(cells[0]);
-    let volumes = volumes_at(cells);
-    let rates = rates_at(cells);
-    LinearPk {
-        compartments,
-        depot: depot == 1.0,
-        volumes,
-        rates,
-    }
-}
+ghost use Rattle.kernel_cells.specs.Cells.{absorptionOf, kernelAt, newCells, bindCells};
 
 // The cells of a new kernel; the number of its refusal, 0 for none.
 pub fn new(
@@ -166,7 +27,7 @@ pub fn new(
         clearance,
         volumes,
         exchange,
-        absorption_of(depot, absorption),
+        kernel_reading::absorption_of(depot, absorption),
     );
     let reply = made.reply;
     match reply {
@@ -176,7 +37,7 @@ pub fn new(
                 return refusal::number(Reply::Refused(Refusal::ShortSlice));
             }
             let value = made.kernel;
-            let cells = kernel_cells(value);
+            let cells = kernel_writing::kernel_cells(value);
             interval::lay(&cells, kernel);
             0
         }
@@ -188,7 +49,7 @@ pub fn bind(kernel: &[f64], initial: &[f64], bound: &mut [f64]) -> u64
     ensures { λ r. ⌜ r ≡ number (bindCells (kernelAt (now (kernel .entry))) (now (initial .entry)) (length (now (bound .entry)))) ⌝ }
     ensures { λ r. ⌜ now (bound .exit) ≡ laid (bindCells (kernelAt (now (kernel .entry))) (now (initial .entry)) (length (now (bound .entry)))) (now (bound .entry)) ⌝ }
 {
-    let made = kernel_at(kernel).bind(initial);
+    let made = kernel_reading::kernel_at(kernel).bind(initial);
     let reply = made.reply;
     match reply {
         Reply::Refused(refusal) => refusal::number(Reply::Refused(refusal)),
@@ -197,7 +58,7 @@ pub fn bind(kernel: &[f64], initial: &[f64], bound: &mut [f64]) -> u64
                 return refusal::number(Reply::Refused(Refusal::ShortSlice));
             }
             let value = made.bound;
-            let cells = bound_cells(value);
+            let cells = kernel_writing::bound_cells(value);
             interval::lay(&cells, bound);
             0
         }

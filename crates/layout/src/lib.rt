@@ -52,8 +52,8 @@ pub fn events_fit(words: &[u64]) -> bool
 pub fn event_from(kind: u64, time: u64, target: u64, amount: u64, last: u64, stops: u64) -> Event
     ensures { λ r. ⌜ r ≡ eventFrom kind time target amount last stops ⌝ }
 {
-    let at = binary64::of_bits(time);
-    let given = binary64::of_bits(amount);
+    let at = bit_patterns::of_bits(time);
+    let given = bit_patterns::of_bits(amount);
     if kind == 0 {
         return Event::Bolus {
             time: at,
@@ -66,7 +66,7 @@ pub fn event_from(kind: u64, time: u64, target: u64, amount: u64, last: u64, sto
             time: at,
             target: target as usize,
             amount: given,
-            duration: binary64::of_bits(last),
+            duration: bit_patterns::of_bits(last),
         };
     }
     Event::Reset {
@@ -99,7 +99,7 @@ fn event_or_none(words: &[u64], i: usize) -> Event
     if i < words.len() / WORDS {
         event_of(words, i)
     } else {
-        events::no_event()
+        no_event::no_event()
     }
 }
 
@@ -107,7 +107,7 @@ fn event_or_none(words: &[u64], i: usize) -> Event
 pub fn events_of(words: &[u64]) -> [Event; EVENTS]
     ensures { λ r. ⌜ r ≡ tabulate 192 (eventOrNone (now (words .entry))) ⌝ }
 {
-    let none = events::no_event();
+    let none = no_event::no_event();
     let mut list = [none; EVENTS];
     for i in 0..EVENTS {
         list[i] = event_or_none(words, i);

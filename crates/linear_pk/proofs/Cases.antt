@@ -16,7 +16,7 @@ use Rattle.interval.specs.Interval.{states, interval}
 use Rattle.concentration.specs.Concentrations.{concentrations as concentrationsOf}
 use Rattle.linear_pk.specs.LinearPk.{stateCount, sound, advance, concentrations, bind, passes, valuesPass, kernelOf, ratesFinite, new, padded, mostCompartments}
 use Rattle.linear_pk.specs.declared.kernel.LinearPk.{LinearPk}
-use Rattle.linear_pk.specs.declared.kernel.Absorption.{Absorption}
+use Rattle.parameters.specs.declared.Absorption.{Absorption}
 
 -- ---- `advance`
 module _ (s : Scheme) (k : LinearPk) (x r : List Float) (d : Float) where

@@ -1,23 +1,24 @@
 -- 01, "Amounts and concentrations": the mammillary model (one to three compartments, an optional depot). Its rates are in `mammillary/specs/Rates.antt`,
 -- their solution over an interval in `interval/specs/Interval.antt`, amounts by volume in `concentration/specs/Concentrations.antt`.
-use mathlib.Core.Bool.{Bool, true, false, _&&_, cond}
+use mathlib.Core.Bool.{Bool, false, _&&_, cond}
 use mathlib.Core.List.{List}
 use Prim.Native.Nat.{ℕ, zero, suc, _+_, _-_, _*_, _/_, _%_}
 use lib.Dec.{eqb, ltb, leb}
 use lib.ListN.{length, replicate}
 use lib.Ieee.{Float, binary64, sub, div, neg}
 use lib.Ieee.Scale.{finite}
-use Rattle.binary64.specs.Doubles.{plusZero, nonnegative, positive}
+use Rattle.binary64.specs.Doubles.{plusZero, nonnegative}
 use Rattle.matrix.specs.Matrix.{cell, tabulate, allTo}
-use Rattle.binary64.specs.Lists.{all, amountsPass}
+use Rattle.binary64.specs.Lists.{amountsPass}
 use Rattle.refusal.specs.Result.{Result, andThen, unless}
 use Rattle.matrix.specs.Exponential.{Scheme}
 use Rattle.interval.specs.Interval.{states, entry, interval}
 pub use Rattle.mammillary.specs.Rates.{place, centralRate, peripheralRate, paddedCell, paddedRate}
 unfoldable pub use Rattle.mammillary.specs.Rates.{diagonalTo, rateOf, padded}
 use Rattle.concentration.specs.Concentrations.{concentrations as concentrationsOf}
-use Rattle.linear_pk.specs.declared.kernel.Absorption.{Absorption}
-use Rattle.linear_pk.specs.declared.kernel.Absorption.the-variants.{Absent, FirstOrder}
+use Rattle.parameters.specs.declared.Absorption.{Absorption}
+pub use Rattle.parameters.specs.Parameters.{depotOf, absorbed}
+unfoldable pub use Rattle.parameters.specs.Parameters.{valuesPass}
 use Rattle.linear_pk.specs.declared.kernel.LinearPk.{LinearPk}
 use Rattle.linear_pk.specs.declared.bind.BoundLinearPk.{BoundLinearPk}
 
@@ -26,15 +27,6 @@ abbrev pub mostCompartments : ℕ
 mostCompartments = 3
 
 -- ---- the absorption
-abbrev pub depotOf : Absorption → Bool
-depotOf Absent = false
-depotOf (FirstOrder k) = true
-
--- the absorption's rate; +0 stands for none
-abbrev pub absorbed : Absorption → Float
-absorbed Absent = plusZero
-absorbed (FirstOrder k) = k
-
 abbrev pub centralOf : Absorption → ℕ
 centralOf a = place (depotOf a)
 
@@ -67,10 +59,6 @@ abbrev pub sound : LinearPk → Result LinearPk
 sound k = andThen (unless (counted k) 1 k) (λ k. unless (ratesFinite k) 2 k)
 
 -- ---- `new`
--- clearance finite, ≥ 0; volumes finite, above 0; exchanges finite, ≥ 0; absorption absent, or finite and ≥ 0
-unfoldable pub valuesPass : Float → List Float → List Float → Absorption → Bool
-valuesPass cl vs qs a = nonnegative cl && (all positive vs && (all nonnegative qs && nonnegative (absorbed a)))
-
 -- 1 to 3 volumes, one exchange fewer, and the values
 unfoldable pub passes : Float → List Float → List Float → Absorption → Bool
 passes cl vs qs a = (ltb 0 (length vs) && leb (length vs) mostCompartments) && (eqb (length qs) (length vs - 1) && valuesPass cl vs qs a)

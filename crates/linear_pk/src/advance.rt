@@ -21,8 +21,8 @@ impl LinearPk {
             Reply::Refused(refusal) => Reply::Refused(refusal),
             Reply::Done => {
                 let n = self.state_count();
-                if !(interval::amounts_pass(n, amounts)
-                    & (interval::amounts_pass(n, rates) & binary64::is_nonnegative(duration))) {
+                if !(value_tests::amounts_pass(n, amounts)
+                    & (value_tests::amounts_pass(n, rates) & binary64::is_nonnegative(duration))) {
                     return Reply::Refused(Refusal::Argument);
                 }
                 if result.len() < n {

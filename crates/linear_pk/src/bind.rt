@@ -7,7 +7,7 @@ use refusal::Reply;
 ghost use mathlib.Core.Path.{_≡_};
 ghost use Rattle.refusal.specs.Numbers.{resultOf};
 ghost use Rattle.refusal.specs.Result.{valueOr};
-ghost use Rattle.linear_pk.specs.LinearPk.{padded, noBound, bind as bindOf};
+ghost use Rattle.linear_pk.specs.LinearPk.{noBound, bind as bindOf};
 
 pub struct BoundLinearPk {
     pub kernel: LinearPk,
@@ -19,16 +19,6 @@ pub struct BoundLinearPk {
 pub struct Bound {
     pub reply: Reply,
     pub bound: BoundLinearPk,
-}
-
-fn padded_amounts(amounts: &[f64]) -> [f64; STATES]
-    ensures { λ r. ⌜ r ≡ padded 4 (now (amounts .entry)) ⌝ }
-{
-    let mut list = [0.0f64; STATES];
-    for i in 0..STATES {
-        list[i] = mammillary::padded_cell(amounts, i);
-    }
-    list
 }
 
 fn not_bound(refusal: Refusal) -> Bound
@@ -54,10 +44,10 @@ impl LinearPk {
             Reply::Refused(refusal) => not_bound(refusal),
             Reply::Done => {
                 let n = self.state_count();
-                if !interval::amounts_pass(n, initial) {
+                if !value_tests::amounts_pass(n, initial) {
                     return not_bound(Refusal::Argument);
                 }
-                let list = padded_amounts(initial);
+                let list = parameters::padded_amounts(initial);
                 let bound = BoundLinearPk {
                     kernel: self,
                     initial: list,

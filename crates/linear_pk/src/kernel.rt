@@ -1,21 +1,15 @@
 // The kernel: a matrix of rates, the volumes, and whether there is a depot.
-use interval::CELLS;
-use interval::Test;
 use mammillary::VOLUMES;
+use parameters::Absorption;
+use propagator::CELLS;
 use refusal::Refusal;
 use refusal::Reply;
 ghost use mathlib.Core.Path.{_≡_};
 ghost use Prim.Native.Nat.{_+_, _≤_};
 ghost use lib.ListN.{length};
-ghost use Rattle.linear_pk.specs.LinearPk.{absorbed as absorbedOf, stateCount, depotOf, valuesPass, ratesFinite, sound, kernelOf, noKernel, new as newOf};
+ghost use Rattle.linear_pk.specs.LinearPk.{stateCount, ratesFinite, sound, kernelOf, noKernel, new as newOf};
 ghost use Rattle.refusal.specs.Result.{valueOr};
 ghost use Rattle.refusal.specs.Numbers.{resultOf};
-
-// First-order absorption from a depot, or none.
-pub enum Absorption {
-    Absent,
-    FirstOrder(f64),
-}
 
 // States are the depot, if there is one, central, then the peripherals. The rate from state j to state i stands at place STATES·i + j.
 pub struct LinearPk {
@@ -39,26 +33,6 @@ impl LinearPk {
         }
         if self.depot { count + 1 } else { count }
     }
-}
-
-// The absorption's rate; 0 stands for none.
-fn absorbed(absorption: Absorption) -> f64
-    ensures { λ r. ⌜ r ≡ absorbedOf absorption ⌝ }
-{
-    match absorption {
-        Absorption::Absent => 0.0,
-        Absorption::FirstOrder(k) => k,
-    }
-}
-
-// Whether the values pass, of 1 to 3 volumes and one exchange fewer.
-fn values_pass(clearance: f64, volumes: &[f64], exchange: &[f64], absorption: Absorption) -> bool
-    ensures { λ r. ⌜ r ≡ valuesPass clearance (now (volumes .entry)) (now (exchange .entry)) absorption ⌝ }
-{
-    binary64::is_nonnegative(clearance)
-        & (interval::all_pass(Test::Positive, volumes)
-            & (interval::all_pass(Test::Nonnegative, exchange)
-                & binary64::is_nonnegative(absorbed(absorption))))
 }
 
 fn rates_finite(kernel: LinearPk) -> bool
@@ -112,24 +86,22 @@ fn not_made(refusal: Refusal) -> Made
     }
 }
 
-fn has_depot(absorption: Absorption) -> bool
-    ensures { λ r. ⌜ r ≡ depotOf absorption ⌝ }
-{
-    match absorption {
-        Absorption::Absent => false,
-        Absorption::FirstOrder(_) => true,
-    }
-}
-
 // The kernel of parameters whose counts fit.
 fn kernel_of(clearance: f64, volumes: &[f64], exchange: &[f64], absorption: Absorption) -> LinearPk
     requires { ⌜ (length (now exchange) + 1 ≡ length (now volumes)) × (length (now volumes) ≤ 3) ⌝ }
     ensures { λ r. ⌜ r ≡ kernelOf clearance (now (volumes .entry)) (now (exchange .entry)) absorption ⌝ }
 {
     let count = volumes.len();
-    let depot = has_depot(absorption);
+    let depot = parameters::has_depot(absorption);
     let n = count + mammillary::central(depot);
-    let cells = mammillary::rates(clearance, volumes, exchange, depot, absorbed(absorption), n);
+    let cells = mammillary::rates(
+        clearance,
+        volumes,
+        exchange,
+        depot,
+        parameters::absorbed(absorption),
+        n,
+    );
     let list = mammillary::padded_volumes(volumes);
     LinearPk {
         compartments: count,
@@ -155,7 +127,7 @@ impl LinearPk {
         if exchange.len() != count - 1 {
             return not_made(Refusal::Parameters);
         }
-        if !values_pass(clearance, volumes, exchange, absorption) {
+        if !parameters::values_pass(clearance, volumes, exchange, absorption) {
             return not_made(Refusal::Parameters);
         }
         let kernel = kernel_of(clearance, volumes, exchange, absorption);

@@ -6,7 +6,6 @@ mod kernel;
 
 pub use bind::Bound;
 pub use bind::BoundLinearPk;
-pub use kernel::Absorption;
 pub use kernel::LinearPk;
 pub use kernel::Made;
 pub use kernel::check;

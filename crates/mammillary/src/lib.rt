@@ -1,6 +1,6 @@
 // The matrix of rates of a mammillary model: central, up to two peripherals, an optional depot.
-use interval::CELLS;
 use matrix::STATES;
+use propagator::CELLS;
 ghost use mathlib.Core.Path.{_≡_};
 ghost use Prim.Native.Nat.{_+_, _≤_, _<_};
 ghost use lib.ListN.{length};
@@ -156,7 +156,7 @@ fn row_finite(rates: [f64; CELLS], n: usize, i: usize) -> bool
 {
     let mut ok = true;
     for j in 0..n {
-        ok = ok & binary64::is_finite(interval::entry(rates, i, j));
+        ok = ok & binary64::is_finite(propagator::entry(rates, i, j));
     }
     ok
 }

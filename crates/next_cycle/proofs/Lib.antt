@@ -1,3 +1,1 @@
-pub mod Lists
-pub mod Next
-pub mod Printing
+pub mod Refusals

@@ -1,2 +1,1 @@
-pub mod Folds
 pub mod Tests

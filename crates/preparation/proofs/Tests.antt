@@ -25,26 +25,6 @@ use Rattle.preparation.specs.Preparation.{validateOf, prepareEntry, numb
 use Rattle.events.specs.Packed.{packed}
 use Rattle.events.proofs.Packing.{packed-length}
 
--- `validate`, test by test
-module _ (n : ℕ) (w : Window) (ss : List Float) (es : List Event) {b : Bool} (p : b ≡ windowPasses w) where
-  pub window-fails : b ≡ false → 10 ≡ numberOf (validateOf n w ss es)
-  unfolding validateOf
-  window-fails f = rw (← p, f)
-
-  module _ {c : Bool} (q : c ≡ all (within w) ss) (t : b ≡ true) where
-    pub sample-fails : c ≡ false → 11 ≡ numberOf (validateOf n w ss es)
-    unfolding validateOf
-    sample-fails f = rw (← p, t, ← q, f)
-
-    module _ {d : Bool} (r : d ≡ eventsPass n w [] es) (u : c ≡ true) where
-      pub event-fails : d ≡ false → 12 ≡ numberOf (validateOf n w ss es)
-      unfolding validateOf
-      event-fails f = rw (← p, t, ← q, u, ← r, f)
-
-      pub valid : d ≡ true → 0 ≡ numberOf (validateOf n w ss es)
-      unfolding validateOf
-      valid f = rw (← p, t, ← q, u, ← r, f)
-
 -- the preparation is 13, `validate`, 14
 prepare-by :
     (n : ℕ) (w : Window) (ss : List Float) (rs : List (List Float)) (ws : List (List ℕ)) (count : ℕ) {b f : Bool} → b ≡ leb count (w .events) → f ≡ leb ((4 * count + length ss + 2) * n) (w .outputs)

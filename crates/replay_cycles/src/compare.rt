@@ -1,9 +1,9 @@
 // The comparison of a fold's reply and pieces with the stored ones.
 use crate::shape::Shape;
 use crate::shape::reply_at;
+use cycle_list::FoldedCycle;
 use event_words::WORDS;
 use protocol::Event;
-use steady_state::FoldedCycle;
 use stored_answers::ROOM;
 ghost use Prim.Native.Nat.{_+_, _≤_};
 ghost use Rattle.replay_cycles.specs.Places.{Held};

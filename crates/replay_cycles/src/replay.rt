@@ -7,10 +7,10 @@ use crate::shape::EXCHANGE;
 use crate::shape::FIRST_EVENT;
 use crate::shape::Shape;
 use crate::shape::WINDOW;
+use cycle_list::FoldedCycle;
 use events::EVENTS;
 use protocol::Event;
 use protocol::Window;
-use steady_state::FoldedCycle;
 use stored_answers::Outcome;
 use stored_answers::ROOM;
 ghost use Prim.Native.Nat.{_≤_};
@@ -19,10 +19,10 @@ ghost use Rattle.replay_cycles.specs.Places.{Held};
 
 fn window(words: &[u64; ROOM]) -> Window {
     Window {
-        start: binary64::of_bits(words[WINDOW]),
-        end: binary64::of_bits(words[WINDOW + 1]),
-        rtol: binary64::of_bits(words[WINDOW + 2]),
-        atol: binary64::of_bits(words[WINDOW + 3]),
+        start: bit_patterns::of_bits(words[WINDOW]),
+        end: bit_patterns::of_bits(words[WINDOW + 1]),
+        rtol: bit_patterns::of_bits(words[WINDOW + 2]),
+        atol: bit_patterns::of_bits(words[WINDOW + 3]),
         propagations: words[WINDOW + 4],
         events: words[WINDOW + 5] as usize,
         outputs: words[WINDOW + 6] as usize,

@@ -5,7 +5,7 @@ use stored_answers::Outcome;
 use stored_answers::ROOM;
 use stored_answers::count;
 use stored_answers::doubles;
-use stored_answers::same;
+use stored_numbers::same;
 ghost use mathlib.Core.Path.{_≡_};
 ghost use Prim.Native.Nat.{_≤_};
 ghost use lib.ListN.{length};
@@ -127,7 +127,7 @@ fn by_advance(words: &[u64; ROOM]) -> Answer
     let rates = doubles(words, RATES);
     let a = count(words, AMOUNTS, &amounts);
     let r = count(words, RATES, &rates);
-    let duration = binary64::of_bits(words[DURATION]);
+    let duration = bit_patterns::of_bits(words[DURATION]);
     let mut cells = prefilled();
     let count = count(words, RESULT, &cells);
     let reply = kernel.advance(&amounts[..a], &rates[..r], duration, &mut cells[..count]);

@@ -1,5 +1,5 @@
 // One line: a run of a sheet, and the printout that it must give.
-use rig::PrintReply;
+use printout_reply::PrintReply;
 use stored_answers::Outcome;
 use stored_sheets::CELL;
 use stored_sheets::SHEET;

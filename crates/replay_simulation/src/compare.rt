@@ -3,9 +3,9 @@ use crate::shape::Shape;
 use crate::shape::cells;
 use crate::shape::reckoned;
 use crate::shape::reply_at;
-use simulation::Report;
+use run_report::Report;
 use stored_answers::ROOM;
-use stored_answers::same;
+use stored_numbers::same;
 ghost use Prim.Native.Nat.{_+_, _≤_, _<_};
 ghost use Rattle.replay_simulation.specs.Places.{Held};
 

@@ -16,8 +16,8 @@ use crate::shape::WINDOW;
 use events::EVENTS;
 use protocol::Event;
 use protocol::Window;
-use simulation::Report;
-use simulation::RunReply;
+use run_report::Report;
+use run_report::RunReply;
 use stored_answers::Outcome;
 use stored_answers::ROOM;
 ghost use Prim.Native.Nat.{_≤_};
@@ -39,7 +39,7 @@ fn unfit() -> Answer {
 }
 
 fn answered(reply: RunReply) -> Answer {
-    let report = simulation::report_of(reply);
+    let report = run_report::report_of(reply);
     let began = match reply {
         RunReply::Refused(_) => false,
         RunReply::Stopped { .. } => true,
@@ -50,10 +50,10 @@ fn answered(reply: RunReply) -> Answer {
 
 fn window(words: &[u64; ROOM]) -> Window {
     Window {
-        start: binary64::of_bits(words[WINDOW]),
-        end: binary64::of_bits(words[WINDOW + 1]),
-        rtol: binary64::of_bits(words[WINDOW + 2]),
-        atol: binary64::of_bits(words[WINDOW + 3]),
+        start: bit_patterns::of_bits(words[WINDOW]),
+        end: bit_patterns::of_bits(words[WINDOW + 1]),
+        rtol: bit_patterns::of_bits(words[WINDOW + 2]),
+        atol: bit_patterns::of_bits(words[WINDOW + 3]),
         propagations: words[WINDOW + 4],
         events: words[WINDOW + 5] as usize,
         outputs: words[WINDOW + 6] as usize,
@@ -113,7 +113,7 @@ fn compared(words: &[u64; ROOM], count: usize) -> Outcome {
     if !shape::has_shape(words, count, shape) {
         return Outcome::Malformed;
     }
-    let real = binary64::of_bits(REAL);
+    let real = bit_patterns::of_bits(REAL);
     let mut times = [real; ROWS];
     let mut sides = [SIDE; ROWS];
     let mut values = [real; CELLS];

@@ -17,14 +17,18 @@ use Rattle.linear_pk.proofs.Counted.{and-first, and-second}
 use Rattle.protocol.specs.Entry.{replyOf, timesAtExit, sidesAtExit, valuesAtExit}
 use Rattle.layout.specs.Layout.{eventCount, eventsOf}
 use Rattle.sheet.specs.Sheet.{wordsOf, Sheet, sheetOf, withinLimits, readSheet}
-use Rattle.sheet.specs.Values.{modelOf}
+use Rattle.sheet_kernel.specs.Values.{modelOf}
 use Rattle.sheet.proofs.Reading.{read-limits}
 use Rattle.printout.specs.Printout.{places, sideLength, rowsLength, textLength, refusedText}
 use Rattle.printout.proofs.Lengths.{text-length, refused-text-length}
-use Rattle.rig.specs.Rig.{ordered, runWith, runSheet, outcomeText, Printout, printoutOf, mostBytes, EveryPrintoutFits}
-use Rattle.rig.specs.Replies.{reckonedOf}
-use Rattle.rig.proofs.Amounts.{few-states}
-use Rattle.rig.proofs.Runs.{Kept, run-kept, reckoned-words}
+use Rattle.printout_reply.specs.Printouts.{Printout}
+use Rattle.ordered_doses.specs.OrderedDoses.{ordered}
+use Rattle.sheet_run.specs.SheetRun.{runWith, reckonedOf}
+use Rattle.sheet_run.proofs.Amounts.{few-states}
+use Rattle.sheet_run.proofs.Words.{reckoned-words}
+use Rattle.run_printout.specs.RunPrintout.{outcomeText}
+use Rattle.run_printout.proofs.Runs.{Kept, run-kept}
+use Rattle.rig.specs.Rig.{runSheet, printoutOf, mostBytes, EveryPrintoutFits}
 use Rattle.rig.proofs.Sheets.{sheet-refused, sheet-runs}
 
 -- ---- digits

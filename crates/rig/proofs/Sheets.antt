@@ -14,12 +14,16 @@ use Rattle.linear_pk.proofs.Counted.{and-first, and-second}
 use Rattle.layout.specs.Layout.{eventCount, eventsFit, eventsOf}
 use Rattle.sheet.specs.Sheet.{wordsOf, body, modelFits, windowFits, Sheet, sheetOf, withinLimits, readSheet}
 use Rattle.sheet.specs.Reader.{placesOf, placesRead, Located}
-use Rattle.sheet.specs.Values.{modelOf}
-use Rattle.sheet.specs.declared.bodies.Places.{Places}
+use Rattle.sheet_kernel.specs.Values.{modelOf}
+use Rattle.sheet_head.specs.declared.Places.{Places}
 use Rattle.sheet.proofs.Places.{words-length, body-at}
 use Rattle.sheet.proofs.Reading.{Passes, read-passes, reads, places-located}
-use Rattle.rig.specs.Rig.{ordered, runWith, runSheet, outcomeText, Printout, runPrintout, printoutOf, printoutOfBytes}
-use Rattle.rig.specs.Replies.{refusal}
+use Rattle.printout_reply.specs.Printouts.{Printout}
+use Rattle.printout_reply.specs.Replies.{refusal}
+use Rattle.ordered_doses.specs.OrderedDoses.{ordered}
+use Rattle.sheet_run.specs.SheetRun.{runWith}
+use Rattle.run_printout.specs.RunPrintout.{outcomeText, runPrintout}
+use Rattle.rig.specs.Rig.{runSheet, printoutOf, printoutOfBytes}
 
 -- the model's refusal, or its run
 pub sheet-refused : (s : Sheet) {c : ℕ} → modelOf (s .model) ≡ refused c → printoutOf (done s) ≡ refusal c

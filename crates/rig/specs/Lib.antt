@@ -1,2 +1,1 @@
 pub mod Rig
-pub mod Replies

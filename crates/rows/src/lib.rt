@@ -1,22 +1,14 @@
-// The blocks of a run: rows written into lent slices, the readings and the arrival of an interval; zeros over the reckoned rows.
-mod clear;
-
-pub use clear::clear_reals;
-pub use clear::clear_sides;
-use interval::Test;
+// The blocks of a run: a row written into lent slices, the kernel's advance and the arrival at a boundary.
 use linear_pk::LinearPk;
 use matrix::STATES;
 use refusal::Reply;
 ghost use mathlib.Core.Path.{_≡_};
-ghost use mathlib.Core.List.{[], _∷_, map, _++_};
+ghost use mathlib.Core.List.{[], _∷_};
 ghost use Prim.Native.Nat.{ℕ, _+_, _*_, _≤_, _<_};
 ghost use lib.ListN.{length, take};
-ghost use Rattle.protocol.specs.Events.{inside};
-ghost use Rattle.protocol.specs.Schedule.{reading, arrive as arrives, onInterval};
-ghost use Rattle.binary64.specs.Lists.{all};
-ghost use lib.Ieee.Scale.{finite};
-ghost use Rattle.rows.specs.Written.{Cells, put, cells};
-ghost use Rattle.rows.specs.Told.{kernelAdvance, movedOf, Ran, Fits};
+ghost use Rattle.protocol.specs.Schedule.{arrive as arrives};
+ghost use Rattle.rows.specs.Written.{Cells, put};
+ghost use Rattle.rows.specs.Told.{kernelAdvance, movedOf, Ran};
 
 // Where a run has come to: whether it stopped, by which number and at which time; the amounts, what is left of the budget of advances, the advances made, and the rows written.
 pub struct Progress {
@@ -59,7 +51,7 @@ pub fn put_row(
 }
 
 // The kernel's advance over n states.
-fn propagate(
+pub fn propagate(
     kernel: LinearPk,
     n: usize,
     amounts: [f64; STATES],
@@ -88,108 +80,8 @@ fn propagate(
     }
 }
 
-// One reading at s, from the boundary t: the row of an advance from the amounts there.
-fn read(
-    kernel: LinearPk,
-    n: usize,
-    t: f64,
-    rates: [f64; STATES],
-    s: f64,
-    start: Progress,
-    times: &mut [f64],
-    sides: &mut [u8],
-    values: &mut [f64],
-) -> Progress
-    requires { ⌜ Fits n start (reading t (take n rates) s ∷ []) (cells (now times) (now sides) (now values)) ⌝ }
-    ensures { λ r. ⌜ Ran (kernelAdvance kernel n) n start (reading t (take n rates) s ∷ []) (cells (now (times .entry)) (now (sides .entry)) (now (values .entry)))
-        r (cells (now (times .exit)) (now (sides .exit)) (now (values .exit))) ⌝ }
-{
-    let amounts = start.amounts;
-    let left = start.left;
-    let made = start.made + 1;
-    let row = start.rows;
-    if left == 0 {
-        return Progress {
-            stopped: true,
-            number: 30,
-            time: s,
-            amounts: amounts,
-            left: 0,
-            made: made,
-            rows: row,
-        };
-    }
-    let m = propagate(kernel, n, amounts, rates, s - t);
-    if m.refused {
-        return Progress {
-            stopped: true,
-            number: m.number,
-            time: s,
-            amounts: amounts,
-            left: left - 1,
-            made: made,
-            rows: row,
-        };
-    }
-    let reached = m.amounts;
-    put_row(times, sides, values, row, n, s, 2, reached);
-    Progress {
-        stopped: false,
-        number: 0,
-        time: 0.0,
-        amounts: amounts,
-        left: left - 1,
-        made: made,
-        rows: row + 1,
-    }
-}
-
-// The readings strictly inside from t to u, each from the amounts at t.
-fn read_all(
-    kernel: LinearPk,
-    n: usize,
-    t: f64,
-    rates: [f64; STATES],
-    u: f64,
-    samples: &[f64],
-    start: Progress,
-    times: &mut [f64],
-    sides: &mut [u8],
-    values: &mut [f64],
-) -> Progress
-    requires { ⌜ Fits n start (map (reading t (take n rates)) (inside t u (now samples))) (cells (now times) (now sides) (now values)) ⌝ }
-    ensures { λ r. ⌜ Ran (kernelAdvance kernel n) n start (map (reading t (take n rates)) (inside t u (now (samples .entry))))
-        (cells (now (times .entry)) (now (sides .entry)) (now (values .entry))) r (cells (now (times .exit)) (now (sides .exit)) (now (values .exit))) ⌝ }
-{
-    let amounts = start.amounts;
-    let mut p = Progress {
-        stopped: false,
-        number: 0,
-        time: 0.0,
-        amounts: amounts,
-        left: start.left,
-        made: start.made,
-        rows: start.rows,
-    };
-    let mut k = 0usize;
-    while k < samples.len() {
-        let s = samples[k];
-        if t < s {
-            if s < u {
-                let q = read(kernel, n, t, rates, s, p, times, sides, values);
-                if q.stopped {
-                    return q;
-                }
-                p = q;
-            }
-        }
-        k += 1;
-    }
-    p
-}
-
 // The advance from the boundary t to the next boundary u.
-fn arrive(
+pub fn arrive(
     kernel: LinearPk,
     n: usize,
     t: f64,
@@ -237,47 +129,4 @@ fn arrive(
         made: made,
         rows: row,
     }
-}
-
-fn all_finite(values: &[f64]) -> bool
-    ensures { λ r. ⌜ r ≡ all finite (now (values .entry)) ⌝ }
-{
-    interval::all_pass(Test::Finite, values)
-}
-
-// From the boundary t to the next boundary u at the summed rates: 32, the readings, the arrival.
-pub fn on_interval(
-    kernel: LinearPk,
-    n: usize,
-    t: f64,
-    rates: [f64; STATES],
-    u: f64,
-    samples: &[f64],
-    start: Progress,
-    times: &mut [f64],
-    sides: &mut [u8],
-    values: &mut [f64],
-) -> Progress
-    requires { ⌜ Fits n start (onInterval t (take n rates) u (now samples)) (cells (now times) (now sides) (now values)) ⌝ }
-    ensures { λ r. ⌜ Ran (kernelAdvance kernel n) n start (onInterval t (take n rates) u (now (samples .entry)))
-        (cells (now (times .entry)) (now (sides .entry)) (now (values .entry))) r (cells (now (times .exit)) (now (sides .exit)) (now (values .exit))) ⌝ }
-{
-    let summed = &rates[..n];
-    if !all_finite(summed) {
-        let amounts = start.amounts;
-        return Progress {
-            stopped: true,
-            number: 32,
-            time: 0.0,
-            amounts: amounts,
-            left: start.left,
-            made: start.made,
-            rows: start.rows,
-        };
-    }
-    let p = read_all(kernel, n, t, rates, u, samples, start, times, sides, values);
-    if p.stopped {
-        return p;
-    }
-    arrive(kernel, n, t, rates, u, p)
 }

@@ -1,5 +1,3 @@
 pub mod Bytes
 pub mod Places
 pub mod Reading
-pub mod Fill
-pub mod Models

@@ -11,7 +11,7 @@ use Rattle.refusal.specs.Result.{Result, refused, done, andThen, unless, number
 use Rattle.layout.specs.Layout.{eventCount}
 use Rattle.sheet.specs.Sheet.{wordsOf, word, follow, placed, Sheet, sheetOf, bodiesFit, wordsFit, withinLimits, readSheet}
 use Rattle.sheet.specs.Reader.{placesOf, Located}
-use Rattle.sheet.specs.declared.bodies.Places.{Places}
+use Rattle.sheet_head.specs.declared.Places.{Places}
 use Rattle.sheet.proofs.Places.{words-length, located, body-length}
 
 abbrev answer : Bool → Sheet → Result Sheet

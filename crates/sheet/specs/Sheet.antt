@@ -1,48 +1,16 @@
 -- 01, "The sheet and its printout": little-endian 64-bit words, five bodies one behind the other. Definitions only.
 use mathlib.Core.Bool.{Bool, _&&_}
-use mathlib.Core.List.{List, [], _∷_}
-use Prim.Native.Nat.{ℕ, _+_, _*_, _/_, _%_}
+use mathlib.Core.List.{List}
+use Prim.Native.Nat.{ℕ, _/_}
 use lib.Dec.{eqb, leb}
-use lib.ListN.{length, getD, take, drop}
-use Rattle.matrix.specs.Matrix.{tabulate}
+use lib.ListN.{length}
 use Rattle.refusal.specs.Result.{Result, andThen, unless}
 use Rattle.layout.specs.Layout.{eventCount, eventsFit}
-
--- ---- words
-abbrev pub littleEndian : List ℕ → ℕ
-littleEndian [] = 0
-littleEndian (b ∷ bs) = b + 256 * littleEndian bs
-
--- the whole words of a file, or of a part of it
-unfoldable pub wordsOf : List ℕ → List ℕ
-wordsOf bs = tabulate (length bs / 8) (λ i. littleEndian (take 8 (drop (8 * i) bs)))
-
-abbrev pub word : List ℕ → ℕ → ℕ
-word ws i = getD ws i 0
-
--- ---- bodies
--- body k: its first word and its word count, as its pair says
-abbrev pub firstOf : List ℕ → ℕ → ℕ
-firstOf ws k = word ws (1 + 2 * k)
-
-abbrev pub countOf : List ℕ → ℕ → ℕ
-countOf ws k = word ws (2 + 2 * k)
-
-abbrev pub body : List ℕ → ℕ → List ℕ
-body ws k = take (countOf ws k) (drop (firstOf ws k) ws)
-
--- the bodies ks, of which the first starts at a place, each start where the one before ends, to the file's end
-abbrev pub follow : List ℕ → ℕ → List ℕ → Bool
-follow ws at [] = eqb at (length ws)
-follow ws at (k ∷ ks) = eqb (firstOf ws k) at && (leb (at + countOf ws k) (length ws) && follow ws (at + countOf ws k) ks)
-
--- word 0 is 5, then five pairs, then the bodies
-unfoldable pub placed : List ℕ → Bool
-placed ws = leb 11 (length ws) && (eqb (word ws 0) 5 && follow ws 11 (0 ∷ 1 ∷ 2 ∷ 3 ∷ 4 ∷ []))
-
--- clearance, depot 0 or 1, absorption, volume count 1 to 3, volumes, exchanges
-unfoldable pub modelFits : List ℕ → Bool
-modelFits m = leb 4 (length m) && (leb (word m 1) 1 && (leb 1 (word m 3) && (leb (word m 3) 3 && eqb (length m) (2 * word m 3 + 3))))
+pub use Rattle.sheet_words.specs.Words.{littleEndian, word}
+unfoldable pub use Rattle.sheet_words.specs.Words.{wordsOf}
+pub use Rattle.sheet_head.specs.Head.{firstOf, countOf, body, follow, wordsFit}
+unfoldable pub use Rattle.sheet_head.specs.Head.{placed}
+unfoldable pub use Rattle.sheet_fits.specs.Model.{modelFits}
 
 -- start, end, rtol, atol, propagation, event and output budgets, absolute, relative
 abbrev pub windowFits : List ℕ → Bool
@@ -61,10 +29,6 @@ sheetOf ws = record { model = body ws 0; window = body ws 1; amounts = body ws 2
 
 abbrev pub bodiesFit : Sheet → Bool
 bodiesFit s = modelFits (s .model) && (windowFits (s .window) && eventsFit (s .events))
-
--- whole words, at most 8,192
-abbrev pub wordsFit : List ℕ → Bool
-wordsFit bs = eqb (length bs % 8) 0 && leb (length bs / 8) 8192
 
 -- at most 64 events and 256 samples
 abbrev pub withinLimits : Sheet → Bool

@@ -1,16 +1,76 @@
 // The reader of a sheet: bytes of any length and contents to the places of its bodies, or 40, then 5. The words stay in the file, and each body is read as its own part of it.
-mod bodies;
-mod values;
-mod words;
+use sheet_head::Places;
+ghost use mathlib.Core.Path.{_≡_};
+ghost use Prim.Native.Nat.{_-_, _*_, _≤_};
+ghost use lib.ListN.{length, take, drop};
+ghost use Rattle.refusal.specs.Result.{number};
+ghost use Rattle.sheet.specs.Sheet.{wordsOf, sheetOf, bodiesFit, readSheet};
+ghost use Rattle.sheet.specs.Reader.{noPlaces, placesRead, Located};
 
-pub use bodies::Places;
-pub use bodies::Read;
-pub use bodies::body;
-pub use bodies::read_sheet;
-pub use values::double;
-pub use values::doubles;
-pub use values::event_of;
-pub use values::events_of;
-pub use values::kernel_of;
-pub use values::window_of;
-pub use words::word;
+// Words of an event.
+const EVENT: usize = 6;
+
+// The words of the window, and the most events and samples of a sheet.
+const WINDOW: usize = 9;
+
+const EVENTS: usize = 64;
+
+const SAMPLES: usize = 256;
+
+// 0, 40 or 5.
+pub struct Read {
+    pub number: u64,
+    pub places: Places,
+}
+
+fn refused(number: u64) -> Read
+    ensures { λ r. ⌜ (r .number ≡ number) × (r .places ≡ noPlaces) ⌝ }
+{
+    let places = Places {
+        model: 0,
+        window: 0,
+        amounts: 0,
+        samples: 0,
+        events: 0,
+        end: 0,
+    };
+    Read { number, places }
+}
+
+// A body as its own part of the file: from its first byte to its end.
+pub fn body(bytes: &[u8], first: usize, end: usize) -> &[u8]
+    requires { ⌜ (first ≤ end) × (8 * end ≤ length (now bytes)) ⌝ }
+    ensures { λ r. ⌜ wordsOf (now r) ≡ take (end - first) (drop first (wordsOf (now (bytes .entry)))) ⌝ }
+{
+    &bytes[8 * first..8 * end]
+}
+
+// Whether the bodies between these places fit.
+fn bodies_fit(bytes: &[u8], places: Places) -> bool
+    requires { ⌜ Located (wordsOf (now bytes)) places ⌝ }
+    ensures { λ r. ⌜ r ≡ bodiesFit (sheetOf (wordsOf (now (bytes .entry)))) ⌝ }
+{
+    let model = sheet_fits::model_fits(body(bytes, places.model, places.window));
+    let events = sheet_fits::events_fit(body(bytes, places.events, places.end));
+    model & ((places.amounts - places.window == WINDOW) & events)
+}
+
+// A sheet's places, or 40, then 5.
+pub fn read_sheet(bytes: &[u8]) -> Read
+    ensures { λ r. ⌜ (r .number ≡ number (readSheet (now (bytes .entry)))) × (r .places ≡ placesRead (wordsOf (now (bytes .entry))) (readSheet (now (bytes .entry)))) ⌝ }
+{
+    if !sheet_head::head_fits(bytes) {
+        return refused(40);
+    }
+    let places = sheet_head::places_of(bytes);
+    if !bodies_fit(bytes, places) {
+        return refused(40);
+    }
+    let events = places.end - places.events;
+    let samples = places.events - places.samples;
+    if (events / EVENT <= EVENTS) & (samples <= SAMPLES) {
+        Read { number: 0, places }
+    } else {
+        refused(5)
+    }
+}

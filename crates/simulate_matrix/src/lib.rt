@@ -1,4 +1,4 @@
-// The analytic run of `simulate_matrix`: the boundaries, the distinct samples, and the loop over boundaries.
+// The analytic run of `simulate_matrix`: the boundaries, the distinct samples, and the run over them.
 use events::EVENTS;
 use linear_pk::LinearPk;
 use matrix::STATES;
@@ -6,7 +6,7 @@ use protocol::Window;
 use rows::Progress;
 ghost use mathlib.Core.Path.{_≡_};
 ghost use mathlib.Core.Option.{none};
-ghost use Prim.Native.Nat.{_≤_, _<_};
+ghost use Prim.Native.Nat.{_≤_};
 ghost use lib.Dec.{T};
 ghost use lib.ListN.{length, take};
 ghost use lib.Ieee.{binary64, fits};
@@ -15,61 +15,10 @@ ghost use Rattle.events.specs.Packed.{packed};
 ghost use Rattle.protocol.specs.Events.{sortedUnique};
 ghost use Rattle.protocol.specs.Prepare.{reckoned, prepare as prepareOf};
 ghost use Rattle.protocol.specs.PlainRun.{Prepared};
-ghost use Rattle.protocol.specs.Schedule.{schedule, fromFirst};
+ghost use Rattle.protocol.specs.Schedule.{schedule};
 ghost use Rattle.rows.specs.Written.{cells, Room};
-ghost use Rattle.rows.specs.Told.{Ran, Fits, kernelAdvance};
+ghost use Rattle.rows.specs.Told.{Ran, kernelAdvance};
 ghost use Rattle.simulate_matrix.specs.Started.{started};
-
-// From the first boundary to the last, or to the first step that refuses.
-fn over_boundaries(
-    kernel: LinearPk,
-    n: usize,
-    reals: &[[f64; 3]; EVENTS],
-    words: &[[usize; 4]; EVENTS],
-    count: usize,
-    bounds: &[f64],
-    samples: &[f64],
-    start: Progress,
-    times: &mut [f64],
-    sides: &mut [u8],
-    values: &mut [f64],
-) -> Progress
-    requires { ⌜ (count ≤ 192) × (1 ≤ length (now bounds)) × Fits n start (fromFirst n (packed (now reals) (now words) count) (now samples) (now bounds)) (cells (now times) (now sides) (now values)) ⌝ }
-    ensures { λ r. ⌜ Ran (kernelAdvance kernel n) n start (fromFirst n (packed (now (reals .entry)) (now (words .entry)) count) (now (samples .entry)) (now (bounds .entry)))
-        (cells (now (times .entry)) (now (sides .entry)) (now (values .entry))) r (cells (now (times .exit)) (now (sides .exit)) (now (values .exit))) ⌝ }
-{
-    let last = bounds.len() - 1;
-    let mut marks = [false; EVENTS];
-    let amounts = start.amounts;
-    let mut p = Progress {
-        stopped: false,
-        number: 0,
-        time: 0.0,
-        amounts: amounts,
-        left: start.left,
-        made: start.made,
-        rows: start.rows,
-    };
-    let mut b = 0usize;
-    while b < last {
-        let t = bounds[b];
-        let q = boundary::at_boundary(reals, words, count, n, t, p, times, sides, values);
-        if q.stopped {
-            return q;
-        }
-        events::mark(reals, words, count, t, &mut marks);
-        let rates = events::summed_rates(reals, words, count, n, t, &marks);
-        let u = bounds[b + 1];
-        let s = rows::on_interval(kernel, n, t, rates, u, samples, q, times, sides, values);
-        if s.stopped {
-            return s;
-        }
-        p = s;
-        b += 1;
-    }
-    let end = bounds[last];
-    boundary::at_boundary(reals, words, count, n, end, p, times, sides, values)
-}
 
 // The samples in order and each once, in readings; how many.
 fn distinct(samples: &[f64], readings: &mut [f64]) -> usize
@@ -78,7 +27,7 @@ fn distinct(samples: &[f64], readings: &mut [f64]) -> usize
 {
     interval::lay(samples, readings);
     let given = samples.len();
-    events::sorted_unique(&mut readings[..given])
+    sorted_times::sorted_unique(&mut readings[..given])
 }
 
 // The whole schedule, over the distinct samples and the boundaries, which are laid into readings and bounds.
@@ -105,7 +54,7 @@ pub fn on_schedule(
         (cells (now (times .entry)) (now (sides .entry)) (now (values .entry))) r (cells (now (times .exit)) (now (sides .exit)) (now (values .exit))) ⌝ }
 {
     let read = distinct(samples, readings);
-    let reached = events::boundaries(window, reals, words, count, bounds);
+    let reached = boundaries::boundaries(window, reals, words, count, bounds);
     let start = Progress {
         stopped: false,
         number: 0,
@@ -115,7 +64,7 @@ pub fn on_schedule(
         made: 0,
         rows: 0,
     };
-    over_boundaries(
+    over_boundaries::over_boundaries(
         kernel,
         n,
         reals,

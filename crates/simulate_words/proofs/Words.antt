@@ -23,7 +23,7 @@ use Rattle.protocol.specs.Execute.{Row, Outcome}
 use Rattle.protocol.specs.Entry.{mostEvents, mostSamples, Room, roomFor, ahead, simulate, atExit}
 use Rattle.protocol.proofs.EntryLaws.{simulate-refuses}
 use Rattle.preparation.specs.Preparation.{ownNumber}
-use Rattle.simulation.specs.KernelRun.{propagatorOf}
+use Rattle.prepared_run.specs.KernelRun.{propagatorOf}
 use Rattle.simulation.specs.Entries.{simulateEntry}
 use Rattle.simulate_words.specs.Run.{simulateWords}
 

@@ -11,7 +11,7 @@ use Rattle.protocol.specs.Execute.{Outcome}
 use Rattle.protocol.specs.Entry.{Room, simulate}
 use Rattle.protocol.specs.declared.Window.{Window}
 use Rattle.preparation.specs.Preparation.{ownNumber}
-use Rattle.simulation.specs.KernelRun.{propagatorOf}
+use Rattle.prepared_run.specs.KernelRun.{propagatorOf}
 
 abbrev pub windowOf : Float → Float → Float → Float → ℕ → ℕ → ℕ → Window
 windowOf start end rtol atol propagations events outputs =

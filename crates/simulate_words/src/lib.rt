@@ -1,7 +1,7 @@
 // A run of events that are laid out as words, six to an event.
 use linear_pk::LinearPk;
 use protocol::Window;
-use simulation::Report;
+use run_report::Report;
 ghost use mathlib.Core.Path.{_≡_};
 ghost use lib.ListN.{length};
 ghost use Rattle.linear_pk.specs.LinearPk.{stateCount};
@@ -44,7 +44,7 @@ pub fn simulate_words(
     }
     let list = layout::events_of(events);
     let count = events.len() / WORDS;
-    simulation::report_of(simulation::simulate(
+    run_report::report_of(simulation::simulate(
         kernel,
         amounts,
         window,

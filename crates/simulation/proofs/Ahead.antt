@@ -1,5 +1,5 @@
 -- The tests ahead of a run, as the entry makes them one after the other.
-use mathlib.Core.Path.{_≡_, refl, sym, ap, _∙_, subst}
+use mathlib.Core.Path.{_≡_, refl, sym, ap, ap₂, _∙_, subst}
 use mathlib.Core.Bool.{Bool, true, false, cond, _&&_}
 use mathlib.Core.List.{List, [], _∷_}
 use mathlib.Core.Option.{Option, some, none}
@@ -13,7 +13,9 @@ use lib.Ieee.{Float, nan}
 use borrow.Author.Tests.{lt-ltb, le-leb}
 use Rattle.binary64.specs.Doubles.{plusZero, nonnegative}
 use Rattle.binary64.specs.Lists.{all, amountsPass}
-use Rattle.refusal.specs.Numbers.{refusalNumber}
+use Rattle.refusal.specs.Numbers.{refusalNumber, resultOf}
+use Rattle.refusal.specs.declared.Reply.{Reply}
+use Rattle.refusal.specs.declared.Reply.the-variants as Y
 use Rattle.refusal.specs.declared.Refusal.{Refusal}
 use Rattle.refusal.specs.Result as R
 use Rattle.matrix.specs.Matrix.{cell, tabulate}
@@ -28,13 +30,15 @@ use Rattle.protocol.specs.First.{unless, firstOf}
 use Rattle.protocol.specs.Prepare.{reckoned, prepare}
 use Rattle.protocol.specs.Execute.{Outcome, runOf}
 use Rattle.protocol.specs.Entry.{mostEvents, mostSamples, Room, roomFor, ahead, simulate, replyOf, timesAtExit, sidesAtExit, valuesAtExit}
+use Rattle.protocol.specs.Entry as E
 use Rattle.protocol.proofs.EntryLaws.{simulate-runs, simulate-refuses}
 use Rattle.protocol.proofs.ListLaws.{both}
-use Rattle.simulation.specs.KernelRun.{propagatorOf}
+use Rattle.prepared_run.specs.KernelRun.{propagatorOf}
 use Rattle.preparation.specs.Preparation.{ownNumber, numberOf}
-use Rattle.simulation.specs.Entries.{simulateEntry, runReply}
-use Rattle.simulation.specs.declared.RunReply.the-variants.{Refused}
-use Rattle.preparation.proofs.Tests.{prepare-passes}
+use Rattle.run_report.specs.Replies.{runReply}
+use Rattle.simulation.specs.Entries.{simulateEntry}
+use Rattle.run_report.specs.declared.RunReply.the-variants.{Refused}
+use Rattle.preparation.proofs.Tests.{prepare-passes, refusal-number}
 
 -- ---- a refusal: its number, and slices as they were
 pub refuses : (r : Refusal) {o : R.Result Outcome} (rows n : ℕ) (times : List Float) (sides : List ℕ) (values : List Float) → o ≡ R.refused (refusalNumber r)
@@ -120,6 +124,10 @@ bind-takes k x = on (counted k) refl
     on true g q = rates (ratesFinite k) g refl q
     on false g q = not-done q
 
+-- beside the code's reply
+pub bound-takes : (k : LinearPk) (x : List Float) {r : Reply} {b : BoundLinearPk} → r ≡ Y.Done → resultOf r b ≡ bind k x → Taken k x b
+bound-takes k x {r} {b} d e = bind-takes k x (sym (ap (λ (i : Reply). resultOf i b) d) ∙ e)
+
 module _ (k : LinearPk) (a : List Float) (w : Window) (es : List Event) (count : ℕ) (ss : List Float) (cells : Room) where
   -- the tests behind 3, and those behind 5
   abbrev pub behindThree : List (Option ℕ)
@@ -197,3 +205,48 @@ module _ (k : LinearPk) (a : List Float) (w : Window) (es : List Event) (count :
       initial-front l =
           ap (take (stateCount k)) (t .initial)
           ∙ bound-front (stateCount k) a l (eqb→eq (length a) (stateCount k) (both (eqb (length a) (stateCount k)) (all nonnegative a) (subst T (sym (t .amounts)) tt) .0))
+
+      -- of n states and the packed events, as the code has them
+      module _ {c n : ℕ} {xs : List Event} (m : n ≡ stateCount k) (p : xs ≡ take count es)
+          (e : c ≡ numberOf (firstOf (prepare n w ss xs ∷ unless (roomFor (reckoned ss xs) n cells) 4 ∷ []))) where
+        told : c ≡ numberOf (firstOf behindThree)
+        told = e ∙ ap₂ (λ (i : ℕ) (ys : List Event). numberOf (firstOf (prepare i w ss ys ∷ unless (roomFor (reckoned ss ys) i cells) 4 ∷ []))) m p
+
+        pub code-refuses : (f : Refusal) → c ≡ refusalNumber f → simulateEntry k a w es count ss cells ≡ R.refused (refusalNumber f)
+        code-refuses f d = tests-refuse (refusalNumber f) (refusal-number f) (sym d ∙ told)
+
+        module _ (d : c ≡ 0) (s : n ≤ 4) where
+          passed : 0 ≡ numberOf (firstOf behindThree)
+          passed = sym d ∙ told
+
+          front : take (stateCount k) (b .initial) ≡ a
+          front = initial-front (subst (λ (i : ℕ). i ≤ 4) m s)
+
+          pub code-passes : ahead (ownNumber (sound k)) (stateCount k) w ss xs (take (stateCount k) (b .initial)) cells ≡ none
+          code-passes = ap₂ (λ (ys : List Event) (x : List Float). ahead (ownNumber (sound k)) (stateCount k) w ss ys x cells) p front ∙ tests-pass passed
+
+          abbrev codeRun : R.Result Outcome
+          codeRun = R.done (runOf (propagatorOf k) (stateCount k) w ss xs (take (stateCount k) (b .initial)))
+
+          same-run : codeRun ≡ simulateEntry k a w es count ss cells
+          same-run = ap₂ (λ (ys : List Event) (x : List Float). R.done (runOf (propagatorOf k) (stateCount k) w ss ys x)) p front ∙ sym (runs passed)
+
+          pub code-runs : (times : List Float) (sides : List ℕ) (values : List Float) {o : E.Reply} {ts : List Float} {ds : List ℕ} {vs : List Float}
+              → (o ≡ replyOf codeRun)
+              × ((ts ≡ timesAtExit (reckoned ss xs) codeRun times)
+              × ((ds ≡ sidesAtExit (reckoned ss xs) codeRun sides) × (vs ≡ valuesAtExit (reckoned ss xs) (stateCount k) codeRun values)))
+              → (o ≡ replyOf (simulateEntry k a w es count ss cells))
+              × ((ts ≡ timesAtExit (reckoned ss (take count es)) (simulateEntry k a w es count ss cells) times)
+              × ((ds ≡ sidesAtExit (reckoned ss (take count es)) (simulateEntry k a w es count ss cells) sides)
+              × (vs ≡ valuesAtExit (reckoned ss (take count es)) (stateCount k) (simulateEntry k a w es count ss cells) values)))
+          code-runs times sides values z =
+              let i = ap (reckoned ss) p in (
+                z .0 ∙ ap replyOf same-run,
+                (
+                  z .1 .0 ∙ ap₂ (λ (j : ℕ) (x : R.Result Outcome). timesAtExit j x times) i same-run,
+                  (
+                    z .1 .1 .0 ∙ ap₂ (λ (j : ℕ) (x : R.Result Outcome). sidesAtExit j x sides) i same-run,
+                    z .1 .1 .1 ∙ ap₂ (λ (j : ℕ) (x : R.Result Outcome). valuesAtExit j (stateCount k) x values) i same-run,
+                  ),
+                ),
+              )

@@ -1,3 +1,1 @@
-pub mod KernelRuns
-pub mod Whole
 pub mod Ahead

@@ -1,2 +1,1 @@
-pub mod KernelRun
 pub mod Entries

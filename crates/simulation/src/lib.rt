@@ -1,185 +1,19 @@
 // `simulate`: the tests ahead of a run, the run, and what it leaves in the three lent slices.
 use events::EVENTS;
 use linear_pk::LinearPk;
-use matrix::STATES;
 use preparation::SAMPLES;
 use protocol::Event;
 use protocol::Window;
 use refusal::Refusal;
 use refusal::Reply;
+use run_report::RunReply;
 ghost use mathlib.Core.Path.{_≡_};
-ghost use mathlib.Core.List.{[], _∷_};
-ghost use mathlib.Core.Option.{none};
-ghost use Prim.Native.Nat.{_≤_, _*_};
 ghost use lib.ListN.{length, take};
-ghost use Rattle.binary64.specs.Doubles.{plusZero};
-ghost use Rattle.refusal.specs.Numbers.{replyNumber};
-ghost use Rattle.refusal.specs.Result.{done};
-ghost use Rattle.linear_pk.specs.LinearPk.{stateCount, sound};
-ghost use Rattle.events.specs.Packed.{packed};
-ghost use Rattle.protocol.specs.First.{unless, firstOf};
-ghost use Rattle.protocol.specs.Prepare.{reckoned, prepare as prepareOf};
-ghost use Rattle.protocol.specs.Execute.{runOf};
-ghost use Rattle.protocol.specs.Entry.{roomFor, ahead, replyOf, laid, timesAtExit, sidesAtExit, valuesAtExit};
-ghost use Rattle.rows.specs.Written.{cells, Room};
-ghost use Rattle.simulation.specs.KernelRun.{propagatorOf};
-ghost use Rattle.preparation.specs.Preparation.{ownNumber, numberOf};
-ghost use Rattle.simulation.specs.Entries.{room, simulateEntry, runReply, reported};
-
-// The most boundaries: start, end, two for each event.
-const BOUNDARIES: usize = 386;
-
-// What a run replies.
-pub enum RunReply {
-    // Refused ahead of the run.
-    Refused(Refusal),
-    // Stopped by a number at a time; the advances made, the refused one counted.
-    Stopped {
-        number: u64,
-        time: f64,
-        advances: u64,
-    },
-    // At the post row at the end.
-    Reached {
-        rows: usize,
-        advances: u64,
-    },
-}
-
-// A reply as numbers; 0 is the number of a run that reached its end.
-pub struct Report {
-    pub number: u64,
-    pub time: f64,
-    pub rows: usize,
-    pub advances: u64,
-}
-
-pub fn report_of(reply: RunReply) -> Report
-    ensures { λ r. ⌜ reported r ≡ runReply reply ⌝ }
-{
-    match reply {
-        RunReply::Refused(refusal) => Report {
-            number: refusal::number(Reply::Refused(refusal)),
-            time: 0.0,
-            rows: 0,
-            advances: 0,
-        },
-        RunReply::Stopped {
-            number,
-            time,
-            advances,
-        } => Report {
-            number,
-            time,
-            rows: 0,
-            advances,
-        },
-        RunReply::Reached { rows, advances } => Report {
-            number: 0,
-            time: 0.0,
-            rows,
-            advances,
-        },
-    }
-}
-
-// Zeros over the reckoned rows, of n amounts each.
-fn clear(times: &mut [f64], sides: &mut [u8], values: &mut [f64], rows: usize, n: usize)
-    requires { ⌜ (n ≤ 4) × Room n rows (cells (now times) (now sides) (now values)) ⌝ }
-    ensures { λ _. ⌜ (now (times .exit) ≡ laid plusZero rows [] (now (times .entry))) × (now (sides .exit) ≡ laid 0 rows [] (now (sides .entry)))
-        × (now (values .exit) ≡ laid plusZero (rows * n) [] (now (values .entry))) ⌝ }
-{
-    rows::clear_reals(times, rows);
-    rows::clear_sides(sides, rows);
-    rows::clear_reals(values, rows * n);
-}
-
-// The tests behind those of the kernel and the amounts: the preparation's, then 4.
-fn admitted(
-    n: usize,
-    window: Window,
-    samples: &[f64],
-    reals: &[[f64; 3]; EVENTS],
-    words: &[[usize; 4]; EVENTS],
-    count: usize,
-    times: usize,
-    sides: usize,
-    values: usize,
-) -> Reply
-    requires { ⌜ (n ≤ 4) × (count ≤ 192) × (length (now samples) ≤ 256) ⌝ }
-    ensures { λ r. ⌜ replyNumber r ≡ numberOf (firstOf (prepareOf n window (now (samples .entry)) (packed (now (reals .entry)) (now (words .entry)) count)
-        ∷ unless (roomFor (reckoned (now (samples .entry)) (packed (now (reals .entry)) (now (words .entry)) count)) n (room times sides values)) 4 ∷ [])) ⌝ }
-{
-    let reply = preparation::prepared(n, window, samples, reals, words, count);
-    match reply {
-        Reply::Refused(refusal) => Reply::Refused(refusal),
-        Reply::Done => {
-            let rows = 4 * count + samples.len() + 2;
-            if (rows <= times) & ((rows <= sides) & (rows * n <= values)) {
-                Reply::Done
-            } else {
-                Reply::Refused(Refusal::ShortSlice)
-            }
-        }
-    }
-}
-
-// The run that no test ahead refuses: its rows over zeros, and zeros alone where it stops.
-fn run_prepared(
-    kernel: LinearPk,
-    initial: [f64; STATES],
-    window: Window,
-    reals: &[[f64; 3]; EVENTS],
-    words: &[[usize; 4]; EVENTS],
-    count: usize,
-    samples: &[f64],
-    times: &mut [f64],
-    sides: &mut [u8],
-    values: &mut [f64],
-) -> RunReply
-    requires { ⌜ ahead (ownNumber (sound kernel)) (stateCount kernel) window (now samples) (packed (now reals) (now words) count) (take (stateCount kernel) initial)
-        (room (length (now times)) (length (now sides)) (length (now values))) ≡ none ⌝ }
-    ensures { λ r. ⌜ runReply r ≡ replyOf (done (runOf (propagatorOf kernel) (stateCount kernel) window (now (samples .entry)) (packed (now (reals .entry)) (now (words .entry)) count) (take (stateCount kernel) initial))) ⌝ }
-    ensures { λ r. ⌜ now (times .exit) ≡ timesAtExit (reckoned (now (samples .entry)) (packed (now (reals .entry)) (now (words .entry)) count))
-        (done (runOf (propagatorOf kernel) (stateCount kernel) window (now (samples .entry)) (packed (now (reals .entry)) (now (words .entry)) count) (take (stateCount kernel) initial))) (now (times .entry)) ⌝ }
-    ensures { λ r. ⌜ now (sides .exit) ≡ sidesAtExit (reckoned (now (samples .entry)) (packed (now (reals .entry)) (now (words .entry)) count))
-        (done (runOf (propagatorOf kernel) (stateCount kernel) window (now (samples .entry)) (packed (now (reals .entry)) (now (words .entry)) count) (take (stateCount kernel) initial))) (now (sides .entry)) ⌝ }
-    ensures { λ r. ⌜ now (values .exit) ≡ valuesAtExit (reckoned (now (samples .entry)) (packed (now (reals .entry)) (now (words .entry)) count)) (stateCount kernel)
-        (done (runOf (propagatorOf kernel) (stateCount kernel) window (now (samples .entry)) (packed (now (reals .entry)) (now (words .entry)) count) (take (stateCount kernel) initial))) (now (values .entry)) ⌝ }
-{
-    let n = kernel.state_count();
-    let rows = 4 * count + samples.len() + 2;
-    clear(times, sides, values, rows, n);
-    let mut readings = [0.0f64; SAMPLES];
-    let mut bounds = [0.0f64; BOUNDARIES];
-    let p = simulate_matrix::on_schedule(
-        kernel,
-        n,
-        initial,
-        window,
-        reals,
-        words,
-        count,
-        samples,
-        &mut readings,
-        &mut bounds,
-        times,
-        sides,
-        values,
-    );
-    if p.stopped {
-        clear(times, sides, values, rows, n);
-        return RunReply::Stopped {
-            number: p.number,
-            time: p.time,
-            advances: p.made,
-        };
-    }
-    RunReply::Reached {
-        rows: p.rows,
-        advances: p.made,
-    }
-}
+ghost use Rattle.linear_pk.specs.LinearPk.{stateCount};
+ghost use Rattle.protocol.specs.Prepare.{reckoned};
+ghost use Rattle.protocol.specs.Entry.{replyOf, timesAtExit, sidesAtExit, valuesAtExit};
+ghost use Rattle.run_report.specs.Replies.{room, runReply};
+ghost use Rattle.simulation.specs.Entries.{simulateEntry};
 
 // A run of the first count events from the amounts: 5, 1, 2, 3, the preparation, 4, then the run.
 pub fn simulate(
@@ -217,9 +51,9 @@ pub fn simulate(
             let mut reals = [real; EVENTS];
             let word = [0usize; 4];
             let mut words = [word; EVENTS];
-            events::pack(events, count, &mut reals, &mut words);
+            packing::pack(events, count, &mut reals, &mut words);
             let n = kernel.state_count();
-            let reply = admitted(
+            let reply = run_admission::admitted(
                 n,
                 window,
                 samples,
@@ -235,7 +69,7 @@ pub fn simulate(
                 Reply::Done => {
                     let start = made.bound;
                     let initial = start.initial;
-                    run_prepared(
+                    prepared_run::run_prepared(
                         kernel,
                         initial,
                         window,

@@ -2,7 +2,7 @@
 use number_text::places;
 use number_text::put_bits;
 use number_text::put_text;
-use printout::put_refused;
+use printout_lines::put_refused;
 ghost use mathlib.Core.Path.{_≡_};
 ghost use Prim.Native.Nat.{_+_, _*_, _≤_};
 ghost use lib.ListN.{length, take};

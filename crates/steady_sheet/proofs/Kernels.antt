@@ -10,9 +10,9 @@ use lib.Ieee.{Float}
 use Rattle.refusal.specs.Result.{Result, refused, done, andThen, unless}
 use Rattle.linear_pk.specs.LinearPk.{counted, ratesFinite, sound, kernelOf, valuesPass, passes, new, mostCompartments}
 use Rattle.linear_pk.specs.declared.kernel.LinearPk.{LinearPk}
-use Rattle.linear_pk.specs.declared.kernel.Absorption.{Absorption}
+use Rattle.parameters.specs.declared.Absorption.{Absorption}
 use Rattle.linear_pk.proofs.Counted.{and-first}
-use Rattle.sheet.specs.Values.{modelOf}
+use Rattle.sheet_kernel.specs.Values.{modelOf}
 
 not-made : {A : Type 0} {c : ℕ} {a : A} → refused c ≡ done a → ⊥
 not-made q = let z : _≡_ {A = ℕ} 0 1 = cc in omega arith

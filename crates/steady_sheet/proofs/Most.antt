@@ -11,16 +11,18 @@ use Rattle.refusal.specs.Result.{Result, refused, done}
 use Rattle.linear_pk.specs.LinearPk.{stateCount}
 use Rattle.linear_pk.specs.declared.kernel.LinearPk.{LinearPk}
 use Rattle.sheet.specs.Sheet.{Sheet, readSheet}
-use Rattle.sheet.specs.Values.{modelOf}
+use Rattle.sheet_kernel.specs.Values.{modelOf}
 use Rattle.printout.specs.Printout.{refusedText}
 use Rattle.printout.proofs.Lengths.{places-most, refused-text-length}
 use Rattle.cycle.specs.Closed.{Timed, stopped, got, then, untimed, Solved}
-use Rattle.rig.proofs.Amounts.{few-states}
+use Rattle.sheet_run.proofs.Amounts.{few-states}
 use Rattle.steady_printout.specs.SteadyPrintout.{solvedText, steadyText}
 use Rattle.steady_printout.proofs.Lines.{solved-length}
-use Rattle.steady_sheet.specs.SteadySheet.{steadyWith, steadySheet, steadyOfBytes, steadyPrintout, mostSteadyBytes, EverySteadyPrintoutFits}
+use Rattle.steady_reply_printout.specs.SteadyReplies.{steadyPrintout}
+use Rattle.sheet_cycle.specs.SheetCycle.{steadyWith}
+use Rattle.sheet_cycle.proofs.Kept.{Kept, steady-kept}
+use Rattle.steady_sheet.specs.SteadySheet.{steadySheet, steadyOfBytes, mostSteadyBytes, EverySteadyPrintoutFits}
 use Rattle.steady_sheet.proofs.Kernels.{model-sound}
-use Rattle.steady_sheet.proofs.Kept.{Kept, steady-kept}
 use Rattle.steady_sheet.proofs.Sheets.{sheet-refused, sheet-runs}
 
 refusal-most : (c : ℕ) (t : Float) → length (refusedText c t) ≤ mostSteadyBytes

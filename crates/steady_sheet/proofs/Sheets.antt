@@ -9,8 +9,8 @@ use Rattle.refusal.specs.Result.{Result, refused, done, number}
 use Rattle.linear_pk.specs.declared.kernel.LinearPk.{LinearPk}
 use Rattle.sheet.specs.Sheet.{wordsOf, Sheet, sheetOf, readSheet}
 use Rattle.sheet.specs.Reader.{placesRead}
-use Rattle.sheet.specs.Values.{modelOf}
-use Rattle.sheet.specs.declared.bodies.Places.{Places}
+use Rattle.sheet_kernel.specs.Values.{modelOf}
+use Rattle.sheet_head.specs.declared.Places.{Places}
 use Rattle.cycle.specs.Closed.{Timed, stopped, then, untimed}
 use Rattle.rig.proofs.Sheets.{read-is, model-is, window-is, samples-are, events-are}
 

@@ -1,2 +1,1 @@
 pub mod SteadySheet
-pub mod Told

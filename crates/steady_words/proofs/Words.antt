@@ -18,7 +18,7 @@ use Rattle.protocol.specs.declared.Window.{Window}
 use Rattle.cycle.specs.declared.SteadyStateTolerance.{SteadyStateTolerance}
 use Rattle.cycle.specs.Fold.{mostCycleEvents}
 use Rattle.cycle.specs.Closed.{Timed, stopped, Solved, steadyReplyOf, answerAtExit}
-use Rattle.periodic.specs.Entry.{steadyEntry}
+use Rattle.steady_reply.specs.Entry.{steadyEntry}
 use Rattle.steady_words.specs.Words.{steadyWords}
 
 module _ (k : LinearPk) (w : Window) (ss : List Float) (ws : List ℕ) (tol : SteadyStateTolerance) (room : Bool) where

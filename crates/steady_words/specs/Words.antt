@@ -8,7 +8,7 @@ use Rattle.layout.specs.Layout.{eventCount, eventsFit, eventsOf}
 use Rattle.protocol.specs.declared.Window.{Window}
 use Rattle.cycle.specs.declared.SteadyStateTolerance.{SteadyStateTolerance}
 use Rattle.cycle.specs.Closed.{Timed, then, unlessFails, Solved, SteadyReply}
-use Rattle.periodic.specs.Entry.{steadyEntry}
+use Rattle.steady_reply.specs.Entry.{steadyEntry}
 use Rattle.steady_words.specs.declared.SteadyReport.{SteadyReport}
 
 -- 40 where the words are no events, else the library's closed cycle of them

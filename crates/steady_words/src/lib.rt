@@ -1,12 +1,12 @@
 // The closed cycle of events that are laid out as words, six to an event, for the C interface.
 use cycle::SteadyStateTolerance;
 use linear_pk::LinearPk;
-use periodic::SteadyReply;
 use protocol::Window;
+use steady_reply::SteadyReply;
 ghost use mathlib.Core.Path.{_≡_};
 ghost use lib.ListN.{length};
 ghost use Rattle.cycle.specs.Closed.{steadyReplyOf, answerAtExit};
-ghost use Rattle.periodic.specs.Entry.{steadyRoom, steadyReply};
+ghost use Rattle.steady_reply.specs.Entry.{steadyRoom, steadyReply};
 ghost use Rattle.steady_words.specs.Words.{steadyWords, reported};
 
 // Words of an event.

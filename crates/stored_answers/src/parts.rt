@@ -1,25 +1,14 @@
 // Parts of a line, by their places in it. A list is its count and then its values.
 use crate::text::ROOM;
-use linear_pk::Absorption;
 use linear_pk::LinearPk;
 use linear_pk::Made;
+use parameters::Absorption;
 ghost use mathlib.Core.Path.{_≡_};
 ghost use Prim.Native.Nat.{_+_, _≤_, _<_};
 ghost use lib.ListN.{length, take};
-ghost use Rattle.stored_answers.specs.Doubles.{sameBits};
 
 // The longest list of doubles.
 const VALUES: usize = 5;
-
-// Whether x has this pattern; all NaNs count as one.
-pub fn same(x: f64, bits: u64) -> bool
-    ensures { λ r. ⌜ r ≡ sameBits x bits ⌝ }
-{
-    if x != x {
-        return binary64::is_nan_bits(bits);
-    }
-    f64::to_bits(x) == bits
-}
 
 // The count at a place, held to the length of the list that it counts in.
 pub fn count(words: &[u64; ROOM], at: usize, list: &[f64]) -> usize
@@ -37,7 +26,7 @@ pub fn doubles(words: &[u64; ROOM], at: usize) -> [f64; VALUES]
 {
     let mut list = [0.0f64; VALUES];
     for i in 0..VALUES {
-        list[i] = binary64::of_bits(words[at + 1 + i]);
+        list[i] = bit_patterns::of_bits(words[at + 1 + i]);
     }
     list
 }
@@ -49,7 +38,7 @@ fn absorption(words: &[u64; ROOM], at: usize) -> Absorption
     if words[at] == 0 {
         Absorption::Absent
     } else {
-        Absorption::FirstOrder(binary64::of_bits(words[at + 1]))
+        Absorption::FirstOrder(bit_patterns::of_bits(words[at + 1]))
     }
 }
 
@@ -62,7 +51,7 @@ pub fn made(words: &[u64; ROOM], clearance: usize, exchange: usize, depot: usize
     let exchanges = doubles(words, exchange);
     let e = count(words, exchange, &exchanges);
     LinearPk::new(
-        binary64::of_bits(words[clearance]),
+        bit_patterns::of_bits(words[clearance]),
         &volumes[..v],
         &exchanges[..e],
         absorption(words, depot),

@@ -1,5 +1,5 @@
 // The parts of a line, with a semicolon between two: how many bytes the sheet has, the printout's number, the sheet's words, the printout.
-use stored_answers::Parsed;
+use stored_numbers::Parsed;
 ghost use Prim.Native.Nat.{_+_, _≤_};
 ghost use lib.ListN.{length};
 
@@ -42,7 +42,7 @@ fn put_words(part: &[u8], sheet: &mut [u8; SHEET]) -> Put {
     let mut count = 0usize;
     while count < WORDS {
         let end = stored_answers::end(part, at, b' ');
-        let found = stored_answers::number(&part[at..end]);
+        let found = stored_numbers::number(&part[at..end]);
         let Parsed::Value(value) = found else {
             return Put::Malformed;
         };
@@ -77,11 +77,11 @@ fn with_parts(
 ) -> Line
     ensures { λ r. ⌜ (r .bytes ≤ 65544) × (r .text ≤ text) ⌝ }
 {
-    let found = stored_answers::number(length);
+    let found = stored_numbers::number(length);
     let Parsed::Value(bytes) = found else {
         return malformed();
     };
-    let found = stored_answers::number(number);
+    let found = stored_numbers::number(number);
     let Parsed::Value(reply) = found else {
         return malformed();
     };

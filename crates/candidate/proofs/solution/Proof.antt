@@ -3,7 +3,7 @@ use mathlib.Core.Path.{sym, _∙_}
 use borrow.Author.Needs.{needs}
 use lib.Ieee.{ofBits}
 use Rattle.events.specs.Packed.{packed}
-use Rattle.simulation.specs.KernelRun.{propagatorOf}
+use Rattle.prepared_run.specs.KernelRun.{propagatorOf}
 use Rattle.candidate.proofs.Chain.{zero-front, solution-stops, columns-stop, solution-solves}
 use Rattle.candidate.proofs.solution.Statement.{statement}
 use Rattle.candidate.proofs.solution.Tie as tie

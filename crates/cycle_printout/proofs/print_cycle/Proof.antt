@@ -1,6 +1,7 @@
 -- `cycle_printout::print_cycle` meets its contract.
 use native.Mathlib.Omega.{arith}
-use Rattle.cycle_printout.proofs.Lines.{lines-length, verdict-length, too-long, cycle-printed}
+use Rattle.cycle_lines.proofs.Lengths.{lines-length}
+use Rattle.cycle_printout.proofs.Lines.{verdict-length, too-long, cycle-printed}
 use borrow.Author.Needs.{needs}
 use Rattle.cycle_printout.proofs.print_cycle.Statement.{statement}
 use Rattle.cycle_printout.proofs.print_cycle.Tie as tie

@@ -4,11 +4,12 @@ use native.Mathlib.Omega.{arith}
 use Prim.Native.Nat.{_<_}
 use Rattle.refusal.specs.Result.{number}
 use Rattle.sheet.specs.Sheet.{readSheet}
-use Rattle.rig.proofs.Replies.{prints-same}
+use Rattle.printout_reply.proofs.Replies.{prints-same}
 use Rattle.rig.proofs.Sheets.{inside, readable}
 use Rattle.steady_sheet.proofs.Sheets.{not-read, bytes-are}
 use Rattle.cycle_printout.specs.CyclePrintout.{cycleText}
-use Rattle.next_cycle.specs.NextCycle.{nextWith, cyclePrintout}
+use Rattle.next_run.specs.NextRun.{nextWith}
+use Rattle.next_printout.specs.NextPrintout.{cyclePrintout}
 use Rattle.cycle_sheet.specs.CycleSheet.{nextSheet, nextOfBytes}
 use borrow.Author.Needs.{needs}
 use Rattle.cycle_sheet.proofs.cycle_sheet.Statement.{statement}

@@ -6,12 +6,13 @@ use Rattle.refusal.specs.Numbers.{resultOf}
 use Rattle.refusal.specs.declared.Reply.{Reply}
 use Rattle.preparation.proofs.Tests.{refusal-number}
 use Rattle.sheet.specs.Sheet.{wordsOf, Sheet}
-use Rattle.rig.specs.Replies.{refusal}
-use Rattle.rig.proofs.Replies.{prints-same}
+use Rattle.printout_reply.specs.Replies.{refusal}
+use Rattle.printout_reply.proofs.Replies.{prints-same}
 use Rattle.steady_sheet.proofs.Kernels.{model-sound}
 use Rattle.steady_sheet.proofs.Sheets.{sheet-refused, sheet-runs}
 use Rattle.cycle_printout.specs.CyclePrintout.{cycleText}
-use Rattle.next_cycle.specs.NextCycle.{nextWith, cyclePrintout}
+use Rattle.next_run.specs.NextRun.{nextWith}
+use Rattle.next_printout.specs.NextPrintout.{cyclePrintout}
 use Rattle.cycle_sheet.specs.CycleSheet.{nextSheet}
 use borrow.Author.Needs.{needs}
 use Rattle.cycle_sheet.proofs.print_sheet.Statement.{statement}

@@ -6,9 +6,9 @@ use lib.Ieee.{Float}
 use Rattle.cycle.specs.Closed.{stopped}
 use Rattle.linear_pk.specs.LinearPk.{stateCount}
 use Rattle.sheet.specs.Sheet.{wordsOf}
-use Rattle.steady_sheet.specs.SteadySheet.{steadyWith}
-use Rattle.steady_sheet.proofs.Kept.{steady-kept}
-use Rattle.next_cycle.proofs.Printing.{refused-prints, next-stops, told-refused, told-solved}
+use Rattle.sheet_cycle.specs.SheetCycle.{steadyWith}
+use Rattle.sheet_cycle.proofs.Kept.{steady-kept}
+use Rattle.next_cycle.proofs.Refusals.{refused-prints, next-stops, told-refused, told-solved}
 use borrow.Author.Needs.{needs}
 use Rattle.next_cycle.proofs.next_bodies.Statement.{statement}
 use Rattle.next_cycle.proofs.next_bodies.Tie as tie

@@ -6,8 +6,8 @@ use Rattle.refusal.specs.Numbers.{resultOf, refusalNumber}
 use Rattle.refusal.specs.declared.Reply.{Reply}
 use Rattle.preparation.proofs.Tests.{refusal-number}
 use Rattle.sheet.specs.Sheet.{wordsOf, Sheet}
-use Rattle.rig.specs.Replies.{refusal}
-use Rattle.rig.proofs.Replies.{prints-same}
+use Rattle.printout_reply.specs.Replies.{refusal}
+use Rattle.printout_reply.proofs.Replies.{prints-same}
 use Rattle.rig.proofs.Sheets.{sheet-refused, sheet-runs}
 use Rattle.rig.proofs.print_sheet.Statement.{statement}
 use Rattle.rig.proofs.print_sheet.Tie as tie

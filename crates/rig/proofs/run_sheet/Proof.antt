@@ -5,7 +5,7 @@ use native.Mathlib.Omega.{arith}
 use Prim.Native.Nat.{_<_}
 use Rattle.refusal.specs.Result.{number}
 use Rattle.sheet.specs.Sheet.{readSheet}
-use Rattle.rig.proofs.Replies.{prints-same}
+use Rattle.printout_reply.proofs.Replies.{prints-same}
 use Rattle.rig.proofs.Sheets.{not-read, inside, readable, printout-is}
 use Rattle.rig.proofs.run_sheet.Statement.{statement}
 use Rattle.rig.proofs.run_sheet.Tie as tie

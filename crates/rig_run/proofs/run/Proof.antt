@@ -4,7 +4,7 @@ use borrow.Author.Needs.{needs}
 use native.Mathlib.Omega.{arith}
 use lib.Seq.{length-take-le}
 use Rattle.rig.specs.Rig.{printoutOfBytes}
-use Rattle.rig.proofs.Replies.{printed-within}
+use Rattle.printout_reply.proofs.Replies.{printed-within}
 use Rattle.rig_run.proofs.run.Statement.{statement}
 use Rattle.rig_run.proofs.run.Tie as tie
 

@@ -10,7 +10,7 @@ use Rattle.binary64.specs.Doubles.{plusZero}
 use Rattle.linear_pk.specs.LinearPk.{stateCount}
 use Rattle.protocol.specs.Execute.{Row}
 use Rattle.protocol.specs.Entry.{replyOf, sideCode}
-use Rattle.simulation.specs.Entries.{room}
+use Rattle.run_report.specs.Replies.{room}
 use Rattle.simulate_words.proofs.Words.{unfit, words-entry, words-exit}
 use Rattle.simulate_words.proofs.simulate_words.Statement.{statement}
 use Rattle.simulate_words.proofs.simulate_words.Tie as tie

@@ -1,14 +1,14 @@
 -- `simulation::simulate` meets its contract.
-use mathlib.Core.Path.{_≡_, refl, sym, ap, _∙_}
+use mathlib.Core.Path.{sym, ap}
 use borrow.Author.Needs.{needs}
 use borrow.Author.Tests.{lt-leb, le-leb}
 use lib.ListN.{length, take}
 use Rattle.linear_pk.specs.LinearPk.{stateCount}
 use Rattle.protocol.specs.Prepare.{reckoned}
-use Rattle.simulation.specs.Entries.{room}
+use Rattle.run_report.specs.Replies.{room}
+use Rattle.refusal.specs.Numbers.{replyNumber}
 use Rattle.refusal.specs.declared.Refusal.the-variants as R
-use Rattle.preparation.proofs.Tests.{refusal-number}
-use Rattle.simulation.proofs.Ahead.{refuses, bind-takes, over-count, over-samples, bind-refused, tests-refuse, tests-pass, runs, initial-front}
+use Rattle.simulation.proofs.Ahead.{refuses, over-count, over-samples, bind-refused, bound-takes, code-passes, code-refuses, code-runs}
 use Rattle.simulation.proofs.simulate.Statement.{statement}
 use Rattle.simulation.proofs.simulate.Tie as tie
 
@@ -25,9 +25,9 @@ returns-2 c =
 run-prepared-requires : tie.Need-run-prepared-requires
 run-prepared-requires c κs =
     let g = c .before .before .before .before .before .before .before .before .before .before .before .before .before .before .before .before .before .before .before .before .before .before .before .before .before .before .args in
-    let t = (bind-takes (g .kernel) (g .amounts .now) (rw (c .before .before .before .before .before .before .before .before .before .before .before .before .before .before .before .before .enum-told .given .1) at (c .before .before .before .before .before .before .before .before .before .before .before .before .before .before .before .before .before .before .bind .ensures .0))) in
+    let t = bound-takes (g .kernel) (g .amounts .now) (c .before .before .before .before .before .before .before .before .before .before .before .before .before .before .before .before .enum-told .given .1) (c .before .before .before .before .before .before .before .before .before .before .before .before .before .before .before .before .before .before .bind .ensures .0) in
     let q = c .before .before .before .before .before .before .before .before .before .before .before .before .state-count .ensures in
-    rw (c .before .before .before .before .before .before .before .before .before .before .before .before .before .pack .ensures, initial-front (g .kernel) (g .amounts .now) (g .window) (g .events) (g .count) (g .samples .now) (room (length (g .times .now)) (length (g .sides .now)) (length (g .values .now))) (le-leb _ _ (c .before .before .before .before .before .before .before .before .before .before .before .before .before .before .before .before .before .before .before .before .if1 .left)) (le-leb _ _ (c .before .before .before .before .before .before .before .before .before .before .before .before .before .before .before .before .before .before .before .if2 .left)) t (rw (q .0) at (q .1))) (tests-pass (g .kernel) (g .amounts .now) (g .window) (g .events) (g .count) (g .samples .now) (room (length (g .times .now)) (length (g .sides .now)) (length (g .values .now))) (le-leb _ _ (c .before .before .before .before .before .before .before .before .before .before .before .before .before .before .before .before .before .before .before .before .if1 .left)) (le-leb _ _ (c .before .before .before .before .before .before .before .before .before .before .before .before .before .before .before .before .before .before .before .if2 .left)) t (rw (c .before .before .before .before .before .before .before .enum-told2 .given .1, c .before .before .before .before .before .before .before .before .before .before .before .before .state-count .ensures .0, c .before .before .before .before .before .before .before .before .before .before .before .before .before .pack .ensures) at (c .before .before .before .before .before .before .before .before .before .admitted .ensures)))
+    code-passes (g .kernel) (g .amounts .now) (g .window) (g .events) (g .count) (g .samples .now) (room (length (g .times .now)) (length (g .sides .now)) (length (g .values .now))) (le-leb _ _ (c .before .before .before .before .before .before .before .before .before .before .before .before .before .before .before .before .before .before .before .before .if1 .left)) (le-leb _ _ (c .before .before .before .before .before .before .before .before .before .before .before .before .before .before .before .before .before .before .before .if2 .left)) t (q .0) (c .before .before .before .before .before .before .before .before .before .before .before .before .before .pack .ensures) (c .before .before .before .before .before .before .before .before .before .admitted .ensures) (ap replyNumber (c .before .before .before .before .before .before .before .enum-told2 .given .1)) (q .1)
 
 returns-3 : tie.Need-returns-3
 returns-3 c =
@@ -37,14 +37,15 @@ returns-3 c =
 returns-4 : tie.Need-returns-4
 returns-4 c =
     let g = c .before .before .before .before .before .before .before .before .before .before .before .before .before .before .before .before .before .before .before .before .args in
-    refuses (c .before .reply .given .0 .0) (reckoned (g .samples .now) (take (g .count) (g .events))) (stateCount (g .kernel)) (g .times .now) (g .sides .now) (g .values .now) (tests-refuse (g .kernel) (g .amounts .now) (g .window) (g .events) (g .count) (g .samples .now) (room (length (g .times .now)) (length (g .sides .now)) (length (g .values .now))) (le-leb _ _ (c .before .before .before .before .before .before .before .before .before .before .before .before .before .before .if1 .left)) (le-leb _ _ (c .before .before .before .before .before .before .before .before .before .before .before .before .before .if2 .left)) (bind-takes (g .kernel) (g .amounts .now) (rw (c .before .before .before .before .before .before .before .before .before .before .enum-told .given .1) at (c .before .before .before .before .before .before .before .before .before .before .before .before .bind .ensures .0))) _ (refusal-number (c .before .reply .given .0 .0)) (rw (c .before .reply .given .1, c .before .before .before .before .before .before .state-count .ensures .0, c .before .before .before .before .before .before .before .pack .ensures) at (c .before .before .before .admitted .ensures)))
+    let t = bound-takes (g .kernel) (g .amounts .now) (c .before .before .before .before .before .before .before .before .before .before .enum-told .given .1) (c .before .before .before .before .before .before .before .before .before .before .before .before .bind .ensures .0) in
+    refuses (c .before .reply .given .0 .0) (reckoned (g .samples .now) (take (g .count) (g .events))) (stateCount (g .kernel)) (g .times .now) (g .sides .now) (g .values .now) (code-refuses (g .kernel) (g .amounts .now) (g .window) (g .events) (g .count) (g .samples .now) (room (length (g .times .now)) (length (g .sides .now)) (length (g .values .now))) (le-leb _ _ (c .before .before .before .before .before .before .before .before .before .before .before .before .before .before .if1 .left)) (le-leb _ _ (c .before .before .before .before .before .before .before .before .before .before .before .before .before .if2 .left)) t (c .before .before .before .before .before .before .state-count .ensures .0) (c .before .before .before .before .before .before .before .pack .ensures) (c .before .before .before .admitted .ensures) (c .before .reply .given .0 .0) (ap replyNumber (c .before .reply .given .1)))
 
 returns-5 : tie.Need-returns-5
 returns-5 c =
     let g = c .before .before .before .before .before .before .before .before .before .before .before .before .before .before .before .before .before .before .before .before .before .before .before .before .before .before .before .before .before .before .before .before .before .args in
-    let t = (bind-takes (g .kernel) (g .amounts .now) (rw (c .before .before .before .before .before .before .before .before .before .before .before .before .before .before .before .before .before .before .before .before .before .before .before .enum-told .given .1) at (c .before .before .before .before .before .before .before .before .before .before .before .before .before .before .before .before .before .before .before .before .before .before .before .before .before .bind .ensures .0))) in
+    let t = bound-takes (g .kernel) (g .amounts .now) (c .before .before .before .before .before .before .before .before .before .before .before .before .before .before .before .before .before .before .before .before .before .before .before .enum-told .given .1) (c .before .before .before .before .before .before .before .before .before .before .before .before .before .before .before .before .before .before .before .before .before .before .before .before .before .bind .ensures .0) in
     let q = c .before .before .before .before .before .before .before .before .before .before .before .before .before .before .before .before .before .before .before .state-count .ensures in
-    rw (runs (g .kernel) (g .amounts .now) (g .window) (g .events) (g .count) (g .samples .now) (room (length (g .times .now)) (length (g .sides .now)) (length (g .values .now))) (le-leb _ _ (c .before .before .before .before .before .before .before .before .before .before .before .before .before .before .before .before .before .before .before .before .before .before .before .before .before .before .before .if1 .left)) (le-leb _ _ (c .before .before .before .before .before .before .before .before .before .before .before .before .before .before .before .before .before .before .before .before .before .before .before .before .before .before .if2 .left)) t (rw (c .before .before .before .before .before .before .before .before .before .before .before .before .before .before .enum-told2 .given .1, c .before .before .before .before .before .before .before .before .before .before .before .before .before .before .before .before .before .before .before .state-count .ensures .0, c .before .before .before .before .before .before .before .before .before .before .before .before .before .before .before .before .before .before .before .before .pack .ensures) at (c .before .before .before .before .before .before .before .before .before .before .before .before .before .before .before .before .admitted .ensures))) (rw (c .before .before .before .before .before .before .before .before .before .before .before .before .before .before .before .before .before .before .before .before .pack .ensures, initial-front (g .kernel) (g .amounts .now) (g .window) (g .events) (g .count) (g .samples .now) (room (length (g .times .now)) (length (g .sides .now)) (length (g .values .now))) (le-leb _ _ (c .before .before .before .before .before .before .before .before .before .before .before .before .before .before .before .before .before .before .before .before .before .before .before .before .before .before .before .if1 .left)) (le-leb _ _ (c .before .before .before .before .before .before .before .before .before .before .before .before .before .before .before .before .before .before .before .before .before .before .before .before .before .before .if2 .left)) t (rw (q .0) at (q .1))) at (c .before .before .before .before .before .before .run-prepared .ensures))
+    code-runs (g .kernel) (g .amounts .now) (g .window) (g .events) (g .count) (g .samples .now) (room (length (g .times .now)) (length (g .sides .now)) (length (g .values .now))) (le-leb _ _ (c .before .before .before .before .before .before .before .before .before .before .before .before .before .before .before .before .before .before .before .before .before .before .before .before .before .before .before .if1 .left)) (le-leb _ _ (c .before .before .before .before .before .before .before .before .before .before .before .before .before .before .before .before .before .before .before .before .before .before .before .before .before .before .if2 .left)) t (q .0) (c .before .before .before .before .before .before .before .before .before .before .before .before .before .before .before .before .before .before .before .before .pack .ensures) (c .before .before .before .before .before .before .before .before .before .before .before .before .before .before .before .before .admitted .ensures) (ap replyNumber (c .before .before .before .before .before .before .before .before .before .before .before .before .before .before .enum-told2 .given .1)) (q .1) (g .times .now) (g .sides .now) (g .values .now) (c .before .before .before .before .before .before .run-prepared .ensures)
 
 pub simulate-spec : {M : Type 1} → statement M
 simulate-spec =

@@ -6,10 +6,12 @@ use Rattle.refusal.specs.Numbers.{resultOf}
 use Rattle.refusal.specs.declared.Reply.{Reply}
 use Rattle.preparation.proofs.Tests.{refusal-number}
 use Rattle.sheet.specs.Sheet.{wordsOf, Sheet}
-use Rattle.rig.specs.Replies.{refusal}
-use Rattle.rig.proofs.Replies.{prints-same}
+use Rattle.printout_reply.specs.Replies.{refusal}
+use Rattle.printout_reply.proofs.Replies.{prints-same}
 use Rattle.steady_printout.specs.SteadyPrintout.{steadyText}
-use Rattle.steady_sheet.specs.SteadySheet.{steadyWith, steadySheet, steadyPrintout}
+use Rattle.steady_reply_printout.specs.SteadyReplies.{steadyPrintout}
+use Rattle.sheet_cycle.specs.SheetCycle.{steadyWith}
+use Rattle.steady_sheet.specs.SteadySheet.{steadySheet}
 use Rattle.steady_sheet.proofs.Kernels.{model-sound}
 use Rattle.steady_sheet.proofs.Sheets.{sheet-refused, sheet-runs}
 use borrow.Author.Needs.{needs}

@@ -4,9 +4,11 @@ use native.Mathlib.Omega.{arith}
 use Prim.Native.Nat.{_<_}
 use Rattle.refusal.specs.Result.{number}
 use Rattle.sheet.specs.Sheet.{readSheet}
-use Rattle.rig.proofs.Replies.{prints-same}
+use Rattle.printout_reply.proofs.Replies.{prints-same}
 use Rattle.steady_printout.specs.SteadyPrintout.{steadyText}
-use Rattle.steady_sheet.specs.SteadySheet.{steadyWith, steadySheet, steadyOfBytes, steadyPrintout}
+use Rattle.steady_reply_printout.specs.SteadyReplies.{steadyPrintout}
+use Rattle.sheet_cycle.specs.SheetCycle.{steadyWith}
+use Rattle.steady_sheet.specs.SteadySheet.{steadySheet, steadyOfBytes}
 use Rattle.rig.proofs.Sheets.{inside, readable}
 use Rattle.steady_sheet.proofs.Sheets.{not-read, bytes-are}
 use borrow.Author.Needs.{needs}

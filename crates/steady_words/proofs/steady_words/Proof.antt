@@ -5,7 +5,7 @@ use borrow.Author.Tests.{not-true, not-false}
 use lib.ListN.{length}
 use lib.Ieee.{ofBits}
 use Rattle.cycle.specs.Closed.{Timed, Solved, steadyReplyOf, answerAtExit}
-use Rattle.periodic.specs.Entry.{steadyRoom}
+use Rattle.steady_reply.specs.Entry.{steadyRoom}
 use Rattle.steady_words.proofs.Words.{unfit, words-entry}
 use Rattle.steady_words.proofs.steady_words.Statement.{statement}
 use Rattle.steady_words.proofs.steady_words.Tie as tie

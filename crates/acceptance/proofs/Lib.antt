@@ -1,0 +1,2 @@
+-- The laws of the acceptance.
+pub mod Chain

@@ -1,0 +1,93 @@
+// The acceptance of a closed cycle's candidate, by its own run.
+use cycle::SteadyStateTolerance;
+use events::EVENTS;
+use linear_pk::LinearPk;
+use matrix::STATES;
+use protocol::Window;
+use refusal::Refusal;
+use refusal::Reply;
+use value_tests::Test;
+ghost use mathlib.Core.Path.{_≡_};
+ghost use mathlib.Core.Bool.{true};
+ghost use Prim.Native.Nat.{_≤_};
+ghost use lib.ListN.{take};
+ghost use Rattle.events.specs.Packed.{packed};
+ghost use Rattle.prepared_run.specs.KernelRun.{propagatorOf};
+ghost use Rattle.cycle.specs.Closed.{got, then, greatestTo, residualsOf, accepted as acceptedOf};
+ghost use Rattle.cycle_run.specs.Ends.{Runs};
+ghost use Rattle.acceptance.specs.Acceptance.{acceptance};
+
+// A candidate refused by a number at a time, or its residuals and the greatest scaled one.
+pub struct Acceptance {
+    pub stopped: bool,
+    pub number: u64,
+    pub time: f64,
+    pub residuals: [f64; STATES],
+    pub greatest: f64,
+}
+
+fn not_accepted(number: u64, time: f64) -> Acceptance
+    ensures { λ r. ⌜ (r .stopped ≡ true) × (r .number ≡ number) × (r .time ≡ time) ⌝ }
+{
+    let residuals = [0.0f64; STATES];
+    Acceptance {
+        stopped: true,
+        number,
+        time,
+        residuals,
+        greatest: 0.0,
+    }
+}
+
+// The residuals of the candidate's own run, which ends with these amounts.
+fn judged(
+    n: usize,
+    tolerance: SteadyStateTolerance,
+    candidate: [f64; STATES],
+    end: [f64; STATES],
+) -> Acceptance
+    requires { ⌜ n ≤ 4 ⌝ }
+    ensures { λ r. ⌜ acceptance n candidate r ≡ then (greatestTo tolerance (take n candidate) (take n end) n)
+        (λ m. got (record { amounts = take n candidate; residuals = residualsOf n (take n candidate) (take n end); greatest = m })) ⌝ }
+{
+    let scaled = residual::greatest(n, tolerance, candidate, end);
+    let reply = scaled.reply;
+    match reply {
+        Reply::Refused(refusal) => not_accepted(refusal::number(Reply::Refused(refusal)), 0.0),
+        Reply::Done => {
+            let residuals = residual::residuals(n, candidate, end);
+            Acceptance {
+                stopped: false,
+                number: 0,
+                time: 0.0,
+                residuals,
+                greatest: scaled.greatest,
+            }
+        }
+    }
+}
+
+// 34; the candidate's own run; state by state 35 and 36.
+pub fn accepted(
+    kernel: LinearPk,
+    n: usize,
+    window: Window,
+    tolerance: SteadyStateTolerance,
+    reals: &[[f64; 3]; EVENTS],
+    words: &[[usize; 4]; EVENTS],
+    count: usize,
+    candidate: [f64; STATES],
+) -> Acceptance
+    requires { ⌜ Runs kernel n window (packed (now reals) (now words) count) ⌝ }
+    ensures { λ r. ⌜ acceptance n candidate r ≡ acceptedOf (propagatorOf kernel) n window tolerance (packed (now (reals .entry)) (now (words .entry)) count) (take n candidate) ⌝ }
+{
+    if !value_tests::all_pass(Test::Nonnegative, &candidate[..n]) {
+        return not_accepted(refusal::number(Reply::Refused(Refusal::Candidate)), 0.0);
+    }
+    let end = cycle_run::last_of(kernel, n, candidate, window, reals, words, count);
+    if end.stopped {
+        return not_accepted(end.number, end.time);
+    }
+    let amounts = end.amounts;
+    judged(n, tolerance, candidate, amounts)
+}

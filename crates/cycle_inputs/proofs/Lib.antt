@@ -1,0 +1,2 @@
+-- The laws of the zeroed list.
+pub mod Zeroed

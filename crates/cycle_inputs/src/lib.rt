@@ -1,0 +1,56 @@
+// What the inner runs of a closed cycle start from: the divided budgets, the zeroed list, the unit amounts.
+use events::EVENTS;
+use matrix::STATES;
+use protocol::Window;
+ghost use mathlib.Core.Path.{_≡_};
+ghost use mathlib.Core.List.{List};
+ghost use Prim.Native.Nat.{ℕ, _≤_, _<_};
+ghost use Rattle.events.specs.Packed.{packed};
+ghost use Rattle.cycle.specs.Closed.{divided as dividedOf, homogeneous as homogeneousOf, unit as unitOf};
+ghost use Rattle.cycle_inputs.specs.Zeroed.{zeroedRow};
+
+// Each budget divided by n + 2.
+pub fn divided(n: usize, window: Window) -> Window
+    requires { ⌜ n ≤ 4 ⌝ }
+    ensures { λ r. ⌜ r ≡ dividedOf n window ⌝ }
+{
+    let passes = n + 2;
+    Window {
+        start: window.start,
+        end: window.end,
+        rtol: window.rtol,
+        atol: window.atol,
+        propagations: window.propagations / (passes as u64),
+        events: window.events / passes,
+        outputs: window.outputs / passes,
+    }
+}
+
+fn zeroed_row(reals: &[[f64; 3]; EVENTS], i: usize) -> [f64; 3]
+    requires { ⌜ i < 192 ⌝ }
+    ensures { λ r. ⌜ r ≡ zeroedRow (now (reals .entry)) i ⌝ }
+{
+    [reals[i][0], 0.0, reals[i][2]]
+}
+
+// The rows of the list with doses and reset values zeroed.
+pub fn homogeneous(reals: &[[f64; 3]; EVENTS], count: usize) -> [[f64; 3]; EVENTS]
+    requires { ⌜ count ≤ 192 ⌝ }
+    ensures { λ r. ⌜ ((ws : List (List ℕ)) → packed r ws count ≡ homogeneousOf (packed (now (reals .entry)) ws count)) ⌝ }
+{
+    let mut zeroed = cycle_cells::real_cells();
+    for i in 0..count {
+        zeroed[i] = zeroed_row(reals, i);
+    }
+    zeroed
+}
+
+// One amount of 1.
+pub fn unit(j: usize) -> [f64; STATES]
+    requires { ⌜ j < 4 ⌝ }
+    ensures { λ r. ⌜ r ≡ unitOf 4 j ⌝ }
+{
+    let mut amounts = [0.0f64; STATES];
+    amounts[j] = 1.0;
+    amounts
+}

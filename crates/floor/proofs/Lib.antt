@@ -1,0 +1,2 @@
+-- The laws of the floor.
+pub mod Floors

@@ -1,0 +1,17 @@
+-- The events of a list, one by one.
+use mathlib.Core.Path.{_≡_, sym, ap, _∙_}
+use mathlib.Core.List.{List, map}
+use Prim.Native.Nat.{ℕ, _<_}
+use native.Mathlib.Omega.{arith}
+use lib.ListN.{length, getD, take, length-map, List·getD-map}
+use lib.Seq.{take-all}
+use Rattle.matrix.specs.Matrix.{tabulate}
+use Rattle.events.proofs.Packing.{tabulate-take}
+use Rattle.protocol.specs.declared.Event.{Event}
+use Rattle.cycle_list.specs.Answers.{eventIn}
+use Rattle.cycle_list.specs.declared.Listed.{Listed}
+
+pub all-events : (list : List Listed) (d : Listed) (m : ℕ) → m ≡ length list → tabulate m (λ (i : ℕ). eventIn (getD list i d)) ≡ map eventIn list
+all-events list d m e =
+    tabulate-take (λ (i : ℕ). eventIn (getD list i d)) (eventIn d) m (map eventIn list) (omega (arith, length-map list eventIn)) (λ (k : ℕ) (l : k < m). sym (List·getD-map eventIn list k d))
+    ∙ take-all m (map eventIn list) (omega (arith, length-map list eventIn))

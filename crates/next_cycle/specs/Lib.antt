@@ -1,2 +1,0 @@
-pub mod NextCycle
-pub mod Solves

@@ -1,0 +1,2 @@
+pub mod NextRun
+pub mod Solves

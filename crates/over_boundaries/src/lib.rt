@@ -1,0 +1,72 @@
+// The loop over boundaries of the analytic run.
+use events::EVENTS;
+use linear_pk::LinearPk;
+use rows::Progress;
+ghost use Prim.Native.Nat.{_≤_};
+ghost use lib.ListN.{length};
+ghost use Rattle.events.specs.Packed.{packed};
+ghost use Rattle.protocol.specs.Schedule.{fromFirst};
+ghost use Rattle.rows.specs.Written.{cells};
+ghost use Rattle.rows.specs.Told.{Ran, Fits, kernelAdvance};
+
+// From the first boundary to the last, or to the first step that refuses.
+pub fn over_boundaries(
+    kernel: LinearPk,
+    n: usize,
+    reals: &[[f64; 3]; EVENTS],
+    words: &[[usize; 4]; EVENTS],
+    count: usize,
+    bounds: &[f64],
+    samples: &[f64],
+    start: Progress,
+    times: &mut [f64],
+    sides: &mut [u8],
+    values: &mut [f64],
+) -> Progress
+    requires { ⌜ (count ≤ 192) × (1 ≤ length (now bounds)) × Fits n start (fromFirst n (packed (now reals) (now words) count) (now samples) (now bounds)) (cells (now times) (now sides) (now values)) ⌝ }
+    ensures { λ r. ⌜ Ran (kernelAdvance kernel n) n start (fromFirst n (packed (now (reals .entry)) (now (words .entry)) count) (now (samples .entry)) (now (bounds .entry)))
+        (cells (now (times .entry)) (now (sides .entry)) (now (values .entry))) r (cells (now (times .exit)) (now (sides .exit)) (now (values .exit))) ⌝ }
+{
+    let last = bounds.len() - 1;
+    let mut marks = [false; EVENTS];
+    let amounts = start.amounts;
+    let mut p = Progress {
+        stopped: false,
+        number: 0,
+        time: 0.0,
+        amounts: amounts,
+        left: start.left,
+        made: start.made,
+        rows: start.rows,
+    };
+    let mut b = 0usize;
+    while b < last {
+        let t = bounds[b];
+        let q = boundary::at_boundary(reals, words, count, n, t, p, times, sides, values);
+        if q.stopped {
+            return q;
+        }
+        event_marks::mark(reals, words, count, t, &mut marks);
+        let rates = infusion_rates::summed_rates(reals, words, count, n, t, &marks);
+        let u = bounds[b + 1];
+        let s = between_boundaries::on_interval(
+            kernel,
+            n,
+            t,
+            rates,
+            u,
+            samples,
+            q,
+            times,
+            sides,
+            values,
+        );
+        if s.stopped {
+            return s;
+        }
+        p = s;
+        b += 1;
+    }
+    let end = bounds[last];
+    boundary::at_boundary(reals, words, count, n, end, p, times, sides, values)
+}

@@ -1,0 +1,71 @@
+// The closed cycle of a list that was folded and prepared: the candidate, its acceptance, the answers written.
+use cycle::SteadyStateTolerance;
+use events::EVENTS;
+use linear_pk::LinearPk;
+use protocol::Window;
+use refusal::Refusal;
+use steady_reply::SteadyReply;
+ghost use mathlib.Core.Bool.{_&&_};
+ghost use Prim.Native.Nat.{_≤_};
+ghost use lib.Dec.{leb};
+ghost use lib.ListN.{length};
+ghost use Rattle.events.specs.Packed.{packed};
+ghost use Rattle.prepared_run.specs.KernelRun.{propagatorOf};
+ghost use Rattle.cycle.specs.Closed.{then, unlessFails, homogeneous, solution, accepted};
+ghost use Rattle.cycle_run.specs.Ends.{Runs};
+ghost use Rattle.steady_reply.specs.Replies.{Answers};
+
+// The closed cycle of a list that was folded and prepared: 4, the candidate, its acceptance. Nothing is written ahead of the last refusal.
+pub fn execute_prepared_periodic_steady_state(
+    kernel: LinearPk,
+    n: usize,
+    window: Window,
+    tolerance: SteadyStateTolerance,
+    reals: &[[f64; 3]; EVENTS],
+    words: &[[usize; 4]; EVENTS],
+    count: usize,
+    amounts: &mut [f64],
+    residual: &mut [f64],
+) -> SteadyReply
+    requires { ⌜ Runs kernel n window (packed (now reals) (now words) count) × Runs kernel n window (homogeneous (packed (now reals) (now words) count)) × (count ≤ 192) ⌝ }
+    ensures { λ r. ⌜ Answers (then (unlessFails (leb n (length (now (amounts .entry))) && leb n (length (now (residual .entry)))) 4 (packed (now (reals .entry)) (now (words .entry)) count))
+        (λ fs. then (solution (propagatorOf kernel) n window fs) (accepted (propagatorOf kernel) n window tolerance fs)))
+        r (now (amounts .entry)) (now (residual .entry)) (now (amounts .exit)) (now (residual .exit)) ⌝ }
+{
+    if amounts.len() < n {
+        return steady_reply::refused(Refusal::ShortSlice);
+    }
+    if residual.len() < n {
+        return steady_reply::refused(Refusal::ShortSlice);
+    }
+    let found = candidate::solution(kernel, n, window, reals, words, count);
+    if found.stopped {
+        return SteadyReply::Refused {
+            number: found.number,
+            time: found.time,
+        };
+    }
+    let candidate = found.amounts;
+    let judgement = acceptance::accepted(
+        kernel,
+        n,
+        window,
+        tolerance,
+        reals,
+        words,
+        count,
+        candidate,
+    );
+    if judgement.stopped {
+        return SteadyReply::Refused {
+            number: judgement.number,
+            time: judgement.time,
+        };
+    }
+    let residuals = judgement.residuals;
+    steady_reply::lay(n, candidate, amounts);
+    steady_reply::lay(n, residuals, residual);
+    SteadyReply::Solved {
+        maximum: judgement.greatest,
+    }
+}

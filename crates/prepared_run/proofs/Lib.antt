@@ -1,0 +1,2 @@
+pub mod KernelRuns
+pub mod Whole

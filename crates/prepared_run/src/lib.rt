@@ -1,0 +1,94 @@
+// The run that no test ahead refuses, and what it leaves in the three lent slices.
+use events::EVENTS;
+use linear_pk::LinearPk;
+use matrix::STATES;
+use preparation::SAMPLES;
+use protocol::Window;
+use run_report::RunReply;
+ghost use mathlib.Core.Path.{_≡_};
+ghost use mathlib.Core.List.{[]};
+ghost use mathlib.Core.Option.{none};
+ghost use Prim.Native.Nat.{_≤_, _*_};
+ghost use lib.ListN.{length, take};
+ghost use Rattle.binary64.specs.Doubles.{plusZero};
+ghost use Rattle.refusal.specs.Result.{done};
+ghost use Rattle.linear_pk.specs.LinearPk.{stateCount, sound};
+ghost use Rattle.events.specs.Packed.{packed};
+ghost use Rattle.protocol.specs.Prepare.{reckoned};
+ghost use Rattle.protocol.specs.Execute.{runOf};
+ghost use Rattle.protocol.specs.Entry.{ahead, replyOf, laid, timesAtExit, sidesAtExit, valuesAtExit};
+ghost use Rattle.rows.specs.Written.{cells, Room};
+ghost use Rattle.preparation.specs.Preparation.{ownNumber};
+ghost use Rattle.run_report.specs.Replies.{room, runReply};
+ghost use Rattle.prepared_run.specs.KernelRun.{propagatorOf};
+
+// The most boundaries: start, end, two for each event.
+const BOUNDARIES: usize = 386;
+
+// Zeros over the reckoned rows, of n amounts each.
+fn clear(times: &mut [f64], sides: &mut [u8], values: &mut [f64], rows: usize, n: usize)
+    requires { ⌜ (n ≤ 4) × Room n rows (cells (now times) (now sides) (now values)) ⌝ }
+    ensures { λ _. ⌜ (now (times .exit) ≡ laid plusZero rows [] (now (times .entry))) × (now (sides .exit) ≡ laid 0 rows [] (now (sides .entry)))
+        × (now (values .exit) ≡ laid plusZero (rows * n) [] (now (values .entry))) ⌝ }
+{
+    zeros::clear_reals(times, rows);
+    zeros::clear_sides(sides, rows);
+    zeros::clear_reals(values, rows * n);
+}
+
+// The run that no test ahead refuses: its rows over zeros, and zeros alone where it stops.
+pub fn run_prepared(
+    kernel: LinearPk,
+    initial: [f64; STATES],
+    window: Window,
+    reals: &[[f64; 3]; EVENTS],
+    words: &[[usize; 4]; EVENTS],
+    count: usize,
+    samples: &[f64],
+    times: &mut [f64],
+    sides: &mut [u8],
+    values: &mut [f64],
+) -> RunReply
+    requires { ⌜ ahead (ownNumber (sound kernel)) (stateCount kernel) window (now samples) (packed (now reals) (now words) count) (take (stateCount kernel) initial)
+        (room (length (now times)) (length (now sides)) (length (now values))) ≡ none ⌝ }
+    ensures { λ r. ⌜ runReply r ≡ replyOf (done (runOf (propagatorOf kernel) (stateCount kernel) window (now (samples .entry)) (packed (now (reals .entry)) (now (words .entry)) count) (take (stateCount kernel) initial))) ⌝ }
+    ensures { λ r. ⌜ now (times .exit) ≡ timesAtExit (reckoned (now (samples .entry)) (packed (now (reals .entry)) (now (words .entry)) count))
+        (done (runOf (propagatorOf kernel) (stateCount kernel) window (now (samples .entry)) (packed (now (reals .entry)) (now (words .entry)) count) (take (stateCount kernel) initial))) (now (times .entry)) ⌝ }
+    ensures { λ r. ⌜ now (sides .exit) ≡ sidesAtExit (reckoned (now (samples .entry)) (packed (now (reals .entry)) (now (words .entry)) count))
+        (done (runOf (propagatorOf kernel) (stateCount kernel) window (now (samples .entry)) (packed (now (reals .entry)) (now (words .entry)) count) (take (stateCount kernel) initial))) (now (sides .entry)) ⌝ }
+    ensures { λ r. ⌜ now (values .exit) ≡ valuesAtExit (reckoned (now (samples .entry)) (packed (now (reals .entry)) (now (words .entry)) count)) (stateCount kernel)
+        (done (runOf (propagatorOf kernel) (stateCount kernel) window (now (samples .entry)) (packed (now (reals .entry)) (now (words .entry)) count) (take (stateCount kernel) initial))) (now (values .entry)) ⌝ }
+{
+    let n = kernel.state_count();
+    let rows = 4 * count + samples.len() + 2;
+    clear(times, sides, values, rows, n);
+    let mut readings = [0.0f64; SAMPLES];
+    let mut bounds = [0.0f64; BOUNDARIES];
+    let p = simulate_matrix::on_schedule(
+        kernel,
+        n,
+        initial,
+        window,
+        reals,
+        words,
+        count,
+        samples,
+        &mut readings,
+        &mut bounds,
+        times,
+        sides,
+        values,
+    );
+    if p.stopped {
+        clear(times, sides, values, rows, n);
+        return RunReply::Stopped {
+            number: p.number,
+            time: p.time,
+            advances: p.made,
+        };
+    }
+    RunReply::Reached {
+        rows: p.rows,
+        advances: p.made,
+    }
+}

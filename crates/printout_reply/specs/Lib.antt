@@ -1,0 +1,2 @@
+pub mod Printouts
+pub mod Replies

@@ -1,0 +1,2 @@
+pub mod SheetCycle
+pub mod Told

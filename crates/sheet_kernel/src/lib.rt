@@ -1,0 +1,54 @@
+// The kernel of a sheet's model.
+use linear_pk::LinearPk;
+use linear_pk::Made;
+use parameters::Absorption;
+ghost use mathlib.Core.Path.{_≡_};
+ghost use mathlib.Core.Bool.{true};
+ghost use Prim.Native.Nat.{_+_, _-_, _*_, _≤_};
+ghost use lib.ListN.{length};
+ghost use Rattle.refusal.specs.Numbers.{resultOf};
+ghost use Rattle.linear_pk.specs.LinearPk.{noKernel};
+ghost use Rattle.refusal.specs.Result.{valueOr};
+ghost use Rattle.sheet_words.specs.Words.{wordsOf, word};
+ghost use Rattle.sheet_fits.specs.Model.{modelFits};
+ghost use Rattle.sheet_kernel.specs.Values.{absorptionOf, modelOf};
+
+fn absorption_of(part: &[u8]) -> Absorption
+    requires { ⌜ 32 ≤ length (now part) ⌝ }
+    ensures { λ r. ⌜ r ≡ absorptionOf (wordsOf (now (part .entry))) ⌝ }
+{
+    if sheet_words::word(part, 1) == 1 {
+        Absorption::FirstOrder(sheet_values::double(part, 2))
+    } else {
+        Absorption::Absent
+    }
+}
+
+// The kernel of volumes and exchanges that are laid out in front.
+fn kernel_from(part: &[u8], volumes: &mut [f64], exchange: &mut [f64]) -> Made
+    requires { ⌜ (length (now volumes) ≡ word (wordsOf (now part)) 3) × (length (now exchange) ≡ word (wordsOf (now part)) 3 - 1) × (8 * (4 + (length (now volumes) + length (now exchange))) ≤ length (now part)) ⌝ }
+    ensures { λ r. ⌜ resultOf (r .reply) (r .kernel) ≡ modelOf (wordsOf (now (part .entry))) ⌝ }
+    ensures { λ r. ⌜ r .kernel ≡ valueOr (modelOf (wordsOf (now (part .entry)))) noKernel ⌝ }
+{
+    let count = volumes.len();
+    sheet_values::doubles(part, 4, volumes);
+    sheet_values::doubles(part, 4 + count, exchange);
+    LinearPk::new(
+        sheet_values::double(part, 0),
+        volumes,
+        exchange,
+        absorption_of(part),
+    )
+}
+
+// The kernel of a model's body.
+pub fn kernel_of(part: &[u8]) -> Made
+    requires { ⌜ modelFits (wordsOf (now part)) ≡ true ⌝ }
+    ensures { λ r. ⌜ resultOf (r .reply) (r .kernel) ≡ modelOf (wordsOf (now (part .entry))) ⌝ }
+    ensures { λ r. ⌜ r .kernel ≡ valueOr (modelOf (wordsOf (now (part .entry)))) noKernel ⌝ }
+{
+    let count = sheet_words::word(part, 3) as usize;
+    let mut volumes = [0.0f64; 3];
+    let mut exchange = [0.0f64; 2];
+    kernel_from(part, &mut volumes[..count], &mut exchange[..count - 1])
+}

@@ -1,0 +1,18 @@
+-- `sheet_words::half` meets its contract.
+use mathlib.Core.Path.{sym}
+use native.Mathlib.Omega.{arith}
+use Rattle.sheet_words.proofs.Bytes.{four}
+use borrow.Author.Needs.{needs}
+use Rattle.sheet_words.proofs.half.Statement.{statement}
+use Rattle.sheet_words.proofs.half.Tie as tie
+
+returns : tie.Need-returns
+returns c =
+    let g = c .before .before .before .before .before .args in
+    (omega arith, rw (four (g .bytes .now) (g .at) (c .before .before .before .before .before .pre), c .before .before .before .byte .ensures .1, c .before .before .byte2 .ensures .1, c .before .byte3 .ensures .1, c .byte4 .ensures .1))
+
+pub half-spec : {M : Type 1} → statement M
+half-spec =
+    tie.close
+    (tie.spec
+    (λ c κs. search needs) (λ c. search needs) (λ c κs. search needs) (λ c. search needs) (λ c κs. search needs) (λ c. search needs) (λ c κs. search needs) (λ c. search needs) (λ c. search needs) (λ c. search needs) (λ c. search needs) (λ c. search needs) (λ c. search needs) returns)

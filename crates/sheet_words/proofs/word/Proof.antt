@@ -1,0 +1,18 @@
+-- `sheet_words::word` meets its contract.
+use native.Mathlib.Omega.{arith}
+use Prim.Native.Nat.{_*_}
+use Rattle.sheet_words.proofs.Bytes.{eight, word-at}
+use borrow.Author.Needs.{needs}
+use Rattle.sheet_words.proofs.word.Statement.{statement}
+use Rattle.sheet_words.proofs.word.Tie as tie
+
+returns : tie.Need-returns
+returns c =
+    let g = c .before .before .before .args in
+    rw (word-at (g .bytes .now) (g .i) (c .before .before .before .pre), eight (g .bytes .now) (8 * g .i) (c .before .before .before .pre), c .before .half .ensures .1, c .half2 .ensures .1)
+
+pub word-spec : {M : Type 1} → statement M
+word-spec =
+    tie.close
+    (tie.spec
+    (λ c. search needs) (λ c κs. search needs) (λ c. search needs) (λ c κs. search needs) (λ c. search needs) (λ c. search needs) returns)

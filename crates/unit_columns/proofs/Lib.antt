@@ -1,0 +1,2 @@
+-- The laws of the columns of the unit amounts.
+pub mod UnitRuns

@@ -1,0 +1,14 @@
+-- `value_tests::amounts_pass` meets its contract.
+use mathlib.Core.Path.{_≡_, refl}
+use borrow.Author.Needs.{needs}
+use Rattle.value_tests.proofs.amounts_pass.Statement.{statement}
+use Rattle.value_tests.proofs.amounts_pass.Tie as tie
+
+returns : tie.Need-returns
+returns c = rw (c .all-pass .ensures)
+
+pub amounts-pass-spec : {M : Type 1} → statement M
+amounts-pass-spec =
+    tie.close
+    (tie.spec
+    (λ c κs. search needs) returns)
