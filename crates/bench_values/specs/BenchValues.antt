@@ -5,7 +5,6 @@ use mathlib.Core.List.{List, [], _∷_}
 use mathlib.Core.Option.{some, none}
 use Prim.Native.Nat.{ℕ, _^_, _+_, _-_}
 use lib.IntN.{pos, negsuc}
-use lib.ListN.{length}
 use lib.Ieee.{Float, fin}
 use Rattle.binary64.specs.Doubles.{plusZero, minusZero, one, half}
 use Rattle.refusal.specs.Result.{Result, refused, done, andThen}
@@ -14,7 +13,6 @@ use Rattle.matrix.specs.Exponential.{scheme}
 use Rattle.interval.specs.Interval.{entry, propagator}
 use Rattle.linear_pk.specs.LinearPk.{new, stateCount, advance}
 use Rattle.linear_pk.specs.declared.kernel.LinearPk.{LinearPk}
-use Rattle.parameters.specs.declared.Absorption.{Absorption}
 use Rattle.parameters.specs.declared.Absorption.the-variants.{Absent, FirstOrder}
 use Rattle.protocol.specs.Prepare.{prepare}
 use Rattle.protocol.specs.Execute.{Outcome, go, stop, runOf}

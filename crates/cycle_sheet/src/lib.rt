@@ -1,4 +1,7 @@
 // One more cycle from the amounts of a sheet's closed one: its bytes in, the bytes of its printout out.
+use cycle_cells::side_cells;
+use cycle_cells::time_cells;
+use cycle_cells::value_cells;
 use linear_pk::LinearPk;
 use next_cycle::next_bodies;
 use printout_reply::PrintReply;
@@ -21,30 +24,6 @@ ghost use Rattle.cycle_sheet.specs.CycleSheet.{nextSheet, cyclePrintoutO
 
 // The most states of a kernel.
 const STATES: usize = 4;
-
-// The most rows of a cycle: four for each of 192 events, and two. The most amounts of those rows.
-const ROWS: usize = 770;
-
-const VALUES: usize = 3080;
-
-// Cells for the rows of a cycle. What they hold is of no matter.
-fn time_cells() -> [f64; ROWS]
-    ensures { λ r. ⌜ 770 ≡ length r ⌝ }
-{
-    [0.0; ROWS]
-}
-
-fn side_cells() -> [u8; ROWS]
-    ensures { λ r. ⌜ 770 ≡ length r ⌝ }
-{
-    [0; ROWS]
-}
-
-fn value_cells() -> [f64; VALUES]
-    ensures { λ r. ⌜ 3080 ≡ length r ⌝ }
-{
-    [0.0; VALUES]
-}
 
 // Cells for the cycle of a kernel and the other bodies.
 fn print_kernel(

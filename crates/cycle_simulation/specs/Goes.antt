@@ -1,7 +1,7 @@
 -- A cycle that a plain run goes through: what the code is given. Definitions only.
 use mathlib.Core.Path.{_≡_}
 use mathlib.Core.List.{List, []}
-use Prim.Native.Nat.{ℕ, _≤_}
+use Prim.Native.Nat.{_≤_}
 use lib.Dec.{T}
 use lib.ListN.{length}
 use lib.Ieee.{Float}

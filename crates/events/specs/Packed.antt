@@ -1,8 +1,7 @@
 -- Events in arrays of numbers, which the code lends to its loops: time, amount or value, duration; kind, target, order, whether it stops.
 use mathlib.Core.List.{List, [], _∷_}
-use mathlib.Core.Option.{Option, some, none}
 use mathlib.Core.Bool.{Bool, false, cond, _&&_, _||_}
-use Prim.Native.Nat.{ℕ, zero, suc, _%_}
+use Prim.Native.Nat.{ℕ, _%_}
 use lib.Dec.{eqb}
 use mathlib.Core.Path.{_≡_}
 use lib.ListN.{length, getD}

@@ -2,10 +2,8 @@
 use cycle_list::FoldedCycle;
 use cycle_list::list_of;
 use events::EVENTS;
-pub use fold_reply::Folding;
 use protocol::Event;
 use protocol::Window;
-pub use refusal::Reply;
 ghost use mathlib.Core.Path.{_≡_};
 ghost use Prim.Native.Nat.{_≤_};
 ghost use lib.ListN.{take};

@@ -1,9 +1,7 @@
 // A kernel and a bound kernel as cells, doubles in a slice.
 use kernel_reading::KERNEL;
 use kernel_writing::BOUND;
-use linear_pk::Bound;
 use linear_pk::LinearPk;
-use linear_pk::Made;
 use refusal::Refusal;
 use refusal::Reply;
 ghost use mathlib.Core.Path.{_≡_};

@@ -5,7 +5,7 @@ use mathlib.Core.List.{List}
 use Prim.Native.Nat.{ℕ, _+_, _*_, _/_, _%_}
 use lib.Dec.{eqb, leb, ltb}
 use lib.ListN.{length, getD}
-use lib.Ieee.{Float, binary64, ofBits}
+use lib.Ieee.{binary64, ofBits}
 use Rattle.matrix.specs.Matrix.{tabulate, allTo}
 use Rattle.protocol.specs.Events.{noEvent}
 use Rattle.protocol.specs.declared.Event.{Event}

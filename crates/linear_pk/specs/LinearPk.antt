@@ -2,13 +2,13 @@
 -- their solution over an interval in `interval/specs/Interval.antt`, amounts by volume in `concentration/specs/Concentrations.antt`.
 use mathlib.Core.Bool.{Bool, false, _&&_, cond}
 use mathlib.Core.List.{List}
-use Prim.Native.Nat.{ℕ, zero, suc, _+_, _-_, _*_, _/_, _%_}
+use Prim.Native.Nat.{ℕ, _+_, _-_, _*_, _/_}
 use lib.Dec.{eqb, ltb, leb}
 use lib.ListN.{length, replicate}
-use lib.Ieee.{Float, binary64, sub, div, neg}
+use lib.Ieee.{Float}
 use lib.Ieee.Scale.{finite}
 use Rattle.binary64.specs.Doubles.{plusZero, nonnegative}
-use Rattle.matrix.specs.Matrix.{cell, tabulate, allTo}
+use Rattle.matrix.specs.Matrix.{tabulate, allTo}
 use Rattle.binary64.specs.Lists.{amountsPass}
 use Rattle.refusal.specs.Result.{Result, andThen, unless}
 use Rattle.matrix.specs.Exponential.{Scheme}

@@ -3,10 +3,10 @@
 use mathlib.Core.Bool.{Bool, true, false}
 use Prim.Native.Nat.{ℕ, zero, suc}
 use lib.IntN.{pos}
-use lib.Ieee.{Float, binary64, add, mul, div, lt, ofInt}
+use lib.Ieee.{Float, binary64, mul, lt, ofInt}
 use lib.Ieee.Scale.{finite}
 use Rattle.binary64.specs.Doubles.{plusZero, half, magnitude, larger}
-use Rattle.matrix.specs.Matrix.{Matrix, at, table, sumTo, allTo, dot, product, quotient, plus, halved, identity}
+use Rattle.matrix.specs.Matrix.{Matrix, at, sumTo, allTo, product, quotient, plus, halved, identity}
 use Rattle.refusal.specs.Result.{Result, refused, done, andThen, unless}
 
 -- the terms of the series, the norm up to which it is summed, and the most halvings

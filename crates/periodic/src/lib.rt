@@ -1,7 +1,6 @@
 // `periodic_steady_state`: the closed cycle of a list, from the tests ahead of it to the amounts, the residuals and the greatest scaled one.
 use cycle::SteadyStateTolerance;
 use events::EVENTS;
-use fold_reply::Folding;
 use linear_pk::LinearPk;
 use preparation::SAMPLES;
 use protocol::Event;

@@ -1,7 +1,6 @@
 // The blocks of a run: a row written into lent slices, the kernel's advance and the arrival at a boundary.
 use linear_pk::LinearPk;
 use matrix::STATES;
-use refusal::Reply;
 ghost use mathlib.Core.Path.{_≡_};
 ghost use mathlib.Core.List.{[], _∷_};
 ghost use Prim.Native.Nat.{ℕ, _+_, _*_, _≤_, _<_};

@@ -1,7 +1,7 @@
 -- 01, "The sheet and its printout": little-endian 64-bit words, five bodies one behind the other. Definitions only.
 use mathlib.Core.Bool.{Bool, _&&_}
 use mathlib.Core.List.{List}
-use Prim.Native.Nat.{ℕ, _/_}
+use Prim.Native.Nat.{ℕ}
 use lib.Dec.{eqb, leb}
 use lib.ListN.{length}
 use Rattle.refusal.specs.Result.{Result, andThen, unless}

@@ -2,7 +2,6 @@
 use native.Mathlib.Omega.{arith}
 use Rattle.sheet.specs.Sheet.{wordsOf}
 use Rattle.printout_reply.proofs.Replies.{prints-same}
-use Rattle.steady_reply.specs.Entry.{steadyReply}
 use Rattle.sheet_cycle.specs.SheetCycle.{steadyWith}
 use Rattle.sheet_cycle.proofs.Kept.{steady-kept}
 use Rattle.closed_printout.proofs.Slices.{told-printout}
