@@ -544,7 +544,7 @@ fn stack() {
 /// The sheet of the longest closed cycle.
 const LONG: &str = "64 infusions for four states, a propagation word of 0";
 
-fn main() {
+pub fn main() {
     let arguments: Vec<String> = std::env::args().skip(1).collect();
     if arguments == ["--runs"] {
         bench_runs::tables();

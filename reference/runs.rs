@@ -315,7 +315,7 @@ fn report(tally: &Tally) -> Vec<String> {
     missing
 }
 
-fn main() {
+pub fn main() {
     let arguments: Vec<String> = std::env::args().skip(1).collect();
     let usage = || -> ! {
         eprintln!("runs [SEED [CASES]] | runs --store FILE N SEED");

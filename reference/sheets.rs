@@ -187,7 +187,7 @@ fn report(tally: &Tally) -> Vec<String> {
     missing
 }
 
-fn main() {
+pub fn main() {
     let arguments: Vec<String> = std::env::args().skip(1).collect();
     let usage = || -> ! {
         eprintln!("sheets [SEED [CASES]] | sheets --store FILE N SEED");

@@ -200,7 +200,7 @@ fn report(tally: &Tally) -> Vec<String> {
     missing
 }
 
-fn main() {
+pub fn main() {
     let arguments: Vec<String> = std::env::args().skip(1).collect();
     let usage = || -> ! {
         eprintln!("steady_sheets [SEED [CASES]] | steady_sheets --store FILE N SEED");

@@ -72,6 +72,7 @@ pub fn write(file: &str, count: usize, seed: u64) {
     for bytes in &sheets {
         let printout = printout(bytes);
         numbers.insert(printout.number);
+        text.push('s');
         text.push_str(&line(bytes, &printout));
         text.push('\n');
     }

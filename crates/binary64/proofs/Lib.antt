@@ -5,7 +5,6 @@ pub mod Units
 pub mod Patterns
 pub mod Magnitudes
 pub mod Total
-pub mod Keys
 -- Laws for the crates above, and for sorting in place.
 pub mod Order
 pub mod Differences

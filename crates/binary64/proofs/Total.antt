@@ -7,7 +7,7 @@ use lib.Dec.{T, leb, ltb, eqb}
 use lib.Ieee.{Float, nan, Format, isNan, lt, eq, ne}
 use lib.Ieee.Scale.{overflow}
 use lib.Ieee.Bits.{is-false}
-use Rattle.binary64.specs.Doubles.{negative, totalLe}
+use Rattle.binary64.specs.Doubles.{negative, totalLe, larger, smaller}
 use Rattle.binary64.proofs.Tests.{iff-leb, or-iff, is-nan, is-real}
 use Rattle.binary64.proofs.Units.{onLine, spot-line, lt-spot, eq-spot, mag, mag-le, Good}
 
@@ -36,6 +36,15 @@ total-nan x = refl
 pub nan-total : (y : Float) → T (not (isNan y)) → totalLe nan y ≡ false
 unfolding totalLe
 nan-total y h = ap (λ (b : Bool). b || false) (is-false (isNan y) h)
+
+-- ---- a NaN gives way to the other
+pub larger-nan : (x : Float) → larger x nan ≡ x
+unfolding larger
+larger-nan x = refl
+
+pub smaller-nan : (x : Float) → smaller x nan ≡ x
+unfolding smaller
+smaller-nan x = refl
 
 -- ---- `larger` and `smaller`, by the tests that code makes: a where x is not after y, and b where it is
 abbrev pub choice : Float → Float → Float → Float → Float

@@ -69,7 +69,7 @@ pub fn parts(
     ensures { λ r. ⌜ Appends (now (reals .entry)) (now (words .entry)) at (now (reals .exit)) (now (words .exit)) r 2 (partsOf window time target rate left) ⌝ }
 {
     if 0.0 < left {
-        let head = binary64::min(left, window.end - time);
+        let head = total_order::min(left, window.end - time);
         let next = push_piece(time, target, rate, head, reals, words, at);
         return tail(window.start, target, rate, left - head, reals, words, next);
     }

@@ -14,7 +14,7 @@ use Rattle.events.proofs.Packing.{tabulate-take}
 use Rattle.protocol.proofs.ListLaws.{both}
 use Rattle.protocol.specs.declared.Event.the-variants.{Reset}
 use Rattle.protocol.specs.Events.{noEvent}
-use Rattle.layout.specs.Layout.{wordAt, eventCount, eventFits, eventFrom, eventOf, eventsOf, eventOrNone}
+use Rattle.layout.specs.Layout.{wordAt, eventCount, eventFits, eventOf, eventsOf, eventOrNone}
 
 -- the first places of an array with room for them are the events
 pub front-events : (w : ℕ) (ws : List ℕ) → eventCount ws ≤ w → take (eventCount ws) (tabulate w (eventOrNone ws)) ≡ eventsOf ws

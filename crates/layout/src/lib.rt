@@ -5,7 +5,7 @@ ghost use mathlib.Core.Path.{_≡_};
 ghost use Prim.Native.Nat.{_+_, _*_, _≤_, _<_};
 ghost use lib.ListN.{length};
 ghost use Rattle.matrix.specs.Matrix.{tabulate};
-ghost use Rattle.layout.specs.Layout.{wordAt, listedOf, eventFits, eventsFit, eventFrom, eventOf, eventOrNone};
+ghost use Rattle.layout.specs.Layout.{wordAt, eventFits, eventsFit, eventOf, eventOrNone};
 
 // Words of an event.
 const WORDS: usize = 6;
@@ -18,18 +18,11 @@ fn word_at(words: &[u64], i: usize, k: usize) -> u64
     words[WORDS * i + k]
 }
 
-// Whether a kind, and a reset's order and `stops`, are among the listed values.
-pub fn listed(kind: u64, order: u64, stops: u64) -> bool
-    ensures { λ r. ⌜ r ≡ listedOf kind order stops ⌝ }
-{
-    (kind <= 1) | ((kind == 2) & ((order <= 65535) & (stops <= 1)))
-}
-
 fn event_fits(words: &[u64], i: usize) -> bool
     requires { ⌜ 6 * i + 6 ≤ length (now words) ⌝ }
     ensures { λ r. ⌜ r ≡ eventFits (now (words .entry)) i ⌝ }
 {
-    listed(
+    event_fields::listed(
         word_at(words, i, 0),
         word_at(words, i, 4),
         word_at(words, i, 5),
@@ -48,42 +41,12 @@ pub fn events_fit(words: &[u64]) -> bool
     (words.len() % WORDS == 0) & ok
 }
 
-// The event of six words. A kind above 2 is read as a reset.
-pub fn event_from(kind: u64, time: u64, target: u64, amount: u64, last: u64, stops: u64) -> Event
-    ensures { λ r. ⌜ r ≡ eventFrom kind time target amount last stops ⌝ }
-{
-    let at = bit_patterns::of_bits(time);
-    let given = bit_patterns::of_bits(amount);
-    if kind == 0 {
-        return Event::Bolus {
-            time: at,
-            target: target as usize,
-            amount: given,
-        };
-    }
-    if kind == 1 {
-        return Event::Infusion {
-            time: at,
-            target: target as usize,
-            amount: given,
-            duration: bit_patterns::of_bits(last),
-        };
-    }
-    Event::Reset {
-        time: at,
-        target: target as usize,
-        value: given,
-        order: (last % 65536) as u16,
-        stops: stops == 1,
-    }
-}
-
 // Event i, whose words are there.
 pub fn event_of(words: &[u64], i: usize) -> Event
     requires { ⌜ 6 * i + 6 ≤ length (now words) ⌝ }
     ensures { λ r. ⌜ r ≡ eventOf (now (words .entry)) i ⌝ }
 {
-    event_from(
+    event_fields::event_from(
         word_at(words, i, 0),
         word_at(words, i, 1),
         word_at(words, i, 2),

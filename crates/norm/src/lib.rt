@@ -27,7 +27,7 @@ pub fn norm(a: &[[f64; BLOCK]; BLOCK], m: usize) -> f64
 {
     let mut largest = 0.0f64;
     for i in 0..m {
-        largest = binary64::max(largest, row_sum(a, m, i));
+        largest = total_order::max(largest, row_sum(a, m, i));
     }
     largest
 }

@@ -29,7 +29,7 @@ fn norm(a: &[[f64; STATES]; STATES], n: usize) -> f64
 {
     let mut largest = 0.0f64;
     for i in 0..n {
-        largest = binary64::max(largest, row_sum(a, n, i));
+        largest = total_order::max(largest, row_sum(a, n, i));
     }
     largest
 }
@@ -39,7 +39,7 @@ pub fn least(a: &[[f64; STATES]; STATES], n: usize) -> f64
     requires { ⌜ n ≤ 4 ⌝ }
     ensures { λ r. ⌜ r ≡ leastPivot n (lead n (now (a .entry))) ⌝ }
 {
-    64.0 * 2.220446049250313e-16 * binary64::max(norm(a, n), 1.0)
+    64.0 * 2.220446049250313e-16 * total_order::max(norm(a, n), 1.0)
 }
 
 // The row of the larger magnitude in column k, i where they are level.
@@ -47,7 +47,7 @@ fn larger(a: &[[f64; STATES]; STATES], k: usize, p: usize, i: usize) -> usize
     requires { ⌜ (k < 4) × (p < 4) × (i < 4) ⌝ }
     ensures { λ r. ⌜ r ≡ cond (totalLe (magnitude (atOf (now (a .entry)) p k)) (magnitude (atOf (now (a .entry)) i k))) i p ⌝ }
 {
-    if binary64::total_le(binary64::abs(at(a, p, k)), binary64::abs(at(a, i, k))) {
+    if total_order::total_le(binary64::abs(at(a, p, k)), binary64::abs(at(a, i, k))) {
         i
     } else {
         p

@@ -1,61 +1,47 @@
-// The comparison of a fold's reply and pieces with the stored ones.
+// The comparison of a fold's reply and words with the stored ones.
 use crate::shape::Shape;
 use crate::shape::reply_at;
-use cycle_list::FoldedCycle;
-use event_words::WORDS;
-use protocol::Event;
+use cycle_words::FoldedWords;
 use stored_answers::ROOM;
 ghost use Prim.Native.Nat.{_+_, _≤_};
 ghost use Rattle.replay_cycles.specs.Places.{Held};
 
-// Whether the six words are those at a place.
-fn words_agree(own: &[u64; WORDS], words: &[u64; ROOM], at: usize) -> bool
-    requires { ⌜ at + 6 ≤ 256 ⌝ }
+// Words that are lent to a fold, above all that a line's pieces need.
+pub const CELLS: usize = 120;
+
+// What each holds before the fold.
+pub const CELL: u64 = 99;
+
+// Whether the first words are those at a place.
+fn words_agree(pieces: &[u64; CELLS], count: usize, words: &[u64; ROOM], at: usize) -> bool
+    requires { ⌜ (count ≤ 108) × (at + count ≤ 256) ⌝ }
 {
     let mut ok = true;
-    for i in 0..WORDS {
-        ok = ok & (own[i] == words[at + i]);
+    for i in 0..count {
+        ok = ok & (pieces[i] == words[at + i]);
     }
     ok
 }
 
-// Whether the words of an event are those at a place.
-fn event_agrees(event: Event, words: &[u64; ROOM], at: usize) -> bool
-    requires { ⌜ at + 6 ≤ 256 ⌝ }
+// Whether the words from a place on are as they were.
+fn kept(pieces: &[u64; CELLS], from: usize) -> bool
+    requires { ⌜ from ≤ 108 ⌝ }
 {
-    let mut own = [0u64; WORDS];
-    event_words::put_event(&mut own, 0, event);
-    words_agree(&own, words, at)
-}
-
-// Whether the first events are the stored pieces.
-fn pieces_agree(cycle: FoldedCycle, words: &[u64; ROOM], shape: Shape) -> bool
-    requires { ⌜ Held shape ⌝ }
-{
-    let events = cycle.events;
-    let mut at = reply_at(shape.events, shape.samples) + 2;
     let mut ok = true;
-    for i in 0..shape.pieces {
-        let listed = events[i];
-        let event = listed.event;
-        ok = ok & event_agrees(event, words, at);
-        at += WORDS;
+    for i in from..CELLS {
+        ok = ok & (pieces[i] == CELL);
     }
     ok
 }
 
-// Whether the line has this number and no piece.
-pub fn refused(number: u64, words: &[u64; ROOM], shape: Shape) -> bool
+// Whether number, count and pieces are as the line says, and the words behind these as they were.
+pub fn agrees(told: FoldedWords, pieces: &[u64; CELLS], words: &[u64; ROOM], shape: Shape) -> bool
     requires { ⌜ Held shape ⌝ }
 {
-    (number == words[reply_at(shape.events, shape.samples)]) & (shape.pieces == 0)
-}
-
-// Whether number, count and pieces are as the line says.
-pub fn agrees(number: u64, cycle: FoldedCycle, words: &[u64; ROOM], shape: Shape) -> bool
-    requires { ⌜ Held shape ⌝ }
-{
-    (number == words[reply_at(shape.events, shape.samples)])
-        & (cycle.count == shape.pieces)
-        & pieces_agree(cycle, words, shape)
+    let at = reply_at(shape.events, shape.samples);
+    let count = 6 * shape.pieces;
+    (told.number == words[at])
+        & (told.count == shape.pieces)
+        & words_agree(pieces, count, words, at + 2)
+        & kept(pieces, count)
 }

@@ -1,5 +1,7 @@
 // One line: a fold of the library, and the answer that it must give.
 use crate::compare;
+use crate::compare::CELL;
+use crate::compare::CELLS;
 use crate::shape;
 use crate::shape::CLEARANCE;
 use crate::shape::DEPOT;
@@ -7,9 +9,8 @@ use crate::shape::EXCHANGE;
 use crate::shape::FIRST_EVENT;
 use crate::shape::Shape;
 use crate::shape::WINDOW;
-use cycle_list::FoldedCycle;
-use events::EVENTS;
-use protocol::Event;
+use cycle_words::FoldedWords;
+use linear_pk::LinearPk;
 use protocol::Window;
 use stored_answers::Outcome;
 use stored_answers::ROOM;
@@ -29,35 +30,30 @@ fn window(words: &[u64; ROOM]) -> Window {
     }
 }
 
-// Whether the words of the events, which end at a place, are events.
-fn events_fit(words: &[u64], end: usize) -> bool
+// The fold of the events whose words end at a place.
+fn fold(
+    kernel: LinearPk,
+    window: Window,
+    words: &[u64],
+    end: usize,
+    samples: &[f64],
+    pieces: &mut [u64],
+) -> FoldedWords
     requires { ⌜ (18 ≤ end) × (end ≤ length (now words)) ⌝ }
 {
-    layout::events_fit(&words[FIRST_EVENT..end])
-}
-
-fn events_of(words: &[u64], end: usize) -> [Event; EVENTS]
-    requires { ⌜ (18 ≤ end) × (end ≤ length (now words)) ⌝ }
-{
-    layout::events_of(&words[FIRST_EVENT..end])
+    cycle_words::fold_words(kernel, window, &words[FIRST_EVENT..end], samples, pieces)
 }
 
 // The fold of a line's cycle.
-fn folded(words: &[u64; ROOM], shape: Shape, at: usize) -> FoldedCycle
-    requires { ⌜ (Held shape) × (18 ≤ at) × (at ≤ 54) ⌝ }
+fn folded(words: &[u64; ROOM], shape: Shape, pieces: &mut [u64]) -> FoldedWords
+    requires { ⌜ Held shape ⌝ }
 {
     let made = stored_answers::made(words, CLEARANCE, EXCHANGE, DEPOT);
     let kernel = made.kernel;
+    let at = shape::samples_at(shape.events);
     let samples = stored_answers::doubles(words, at);
     let s = stored_answers::count(words, at, &samples);
-    let events = events_of(words, at);
-    steady_state::normalize_periodic_cycle(
-        kernel,
-        window(words),
-        events,
-        shape.events,
-        &samples[..s],
-    )
+    fold(kernel, window(words), words, at, &samples[..s], pieces)
 }
 
 // Folds the cycle of a line's numbers and compares.
@@ -66,21 +62,12 @@ fn compared(words: &[u64; ROOM], count: usize) -> Outcome {
     if !shape::has_shape(words, count, shape) {
         return Outcome::Malformed;
     }
-    let at = shape::samples_at(shape.events);
-    if !events_fit(words, at) {
-        return Outcome::Called {
-            entry: 0,
-            reply: 40,
-            same: compare::refused(40, words, shape),
-        };
-    }
-    let cycle = folded(words, shape, at);
-    let reply = cycle.reply;
-    let number = refusal::number(reply);
+    let mut pieces = [CELL; CELLS];
+    let told = folded(words, shape, &mut pieces);
     Outcome::Called {
         entry: 0,
-        reply: number,
-        same: compare::agrees(number, cycle, words, shape),
+        reply: told.number,
+        same: compare::agrees(told, &pieces, words, shape),
     }
 }
 

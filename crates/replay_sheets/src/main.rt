@@ -23,5 +23,6 @@ fn main() {
     let n = io::read_full(0, &mut input);
     let tally = replayed(&input[..n]);
     tally.print_entry(0, b"run_sheet");
+    tally.print_entry(1, b"steady_sheet");
     tally.print_total();
 }

@@ -1,4 +1,4 @@
-// One line: a run of a sheet, and the printout that it must give.
+// One line: a sheet's run or steady state, and the printout that it must give.
 use printout_reply::PrintReply;
 use stored_answers::Outcome;
 use stored_sheets::CELL;
@@ -9,15 +9,23 @@ use stored_sheets::kept;
 ghost use Prim.Native.Nat.{_≤_};
 ghost use lib.ListN.{length};
 
-// The run of the first bytes, with the first cells lent.
-fn run(sheet: &[u8], bytes: usize, out: &mut [u8], cells: usize) -> PrintReply
+// Entries: `run_sheet`, and `steady_sheet` for a line that starts with an s.
+pub const RUN: u64 = 0;
+
+pub const STEADY: u64 = 1;
+
+// The printout of the first bytes, with the first cells lent.
+fn printed(entry: u64, sheet: &[u8], bytes: usize, out: &mut [u8], cells: usize) -> PrintReply
     requires { ⌜ (bytes ≤ length (now sheet)) × (cells ≤ length (now out)) ⌝ }
 {
+    if entry == STEADY {
+        return steady_sheet::steady_sheet(&sheet[..bytes], &mut out[..cells]);
+    }
     rig::run_sheet(&sheet[..bytes], &mut out[..cells])
 }
 
-// Runs the sheet with one cell too few, which must be 4 and leave all cells, then with as many as the text has.
-fn compared(sheet: &[u8; SHEET], bytes: usize, number: u64, text: &[u8]) -> Outcome
+// Calls the entry with one cell too few, which must be 4 and leave all cells, then with as many as the text has.
+fn compared(entry: u64, sheet: &[u8; SHEET], bytes: usize, number: u64, text: &[u8]) -> Outcome
     requires { ⌜ bytes ≤ 65544 ⌝ }
 {
     let n = text.len();
@@ -28,27 +36,38 @@ fn compared(sheet: &[u8; SHEET], bytes: usize, number: u64, text: &[u8]) -> Outc
         return Outcome::Malformed;
     }
     let mut less = [CELL; TEXT];
-    let short = run(sheet, bytes, &mut less, n - 1);
+    let short = printed(entry, sheet, bytes, &mut less, n - 1);
     let refused = (short.number == 4) & (short.length == 0) & kept(&less, 0);
     let mut out = [CELL; TEXT];
-    let reply = run(sheet, bytes, &mut out, n);
-    let printed = (reply.length == n) & has_text(&out, text) & kept(&out, n);
+    let reply = printed(entry, sheet, bytes, &mut out, n);
+    let same = (reply.length == n) & has_text(&out, text) & kept(&out, n);
     Outcome::Called {
-        entry: 0,
+        entry,
         reply: reply.number,
-        same: refused & printed & (reply.number == number),
+        same: refused & same & (reply.number == number),
     }
+}
+
+// With the line's parts.
+fn called(entry: u64, parts: &[u8]) -> Outcome {
+    let mut sheet = [0u8; SHEET];
+    let read = stored_sheets::read(parts, &mut sheet);
+    if !read.fits {
+        return Outcome::Malformed;
+    }
+    let at = read.text;
+    compared(entry, &sheet, read.bytes, read.number, &parts[at..])
 }
 
 pub fn replay(line: &[u8]) -> Outcome {
     if stored_answers::is_comment(line) {
         return Outcome::Comment;
     }
-    let mut sheet = [0u8; SHEET];
-    let read = stored_sheets::read(line, &mut sheet);
-    if !read.fits {
+    if line.len() == 0 {
         return Outcome::Malformed;
     }
-    let at = read.text;
-    compared(&sheet, read.bytes, read.number, &line[at..])
+    if line[0] == b's' {
+        return called(STEADY, &line[1..]);
+    }
+    called(RUN, line)
 }

@@ -20,7 +20,7 @@ pub fn scale(tolerance: SteadyStateTolerance, start: f64, end: f64) -> f64
     ensures { λ r. ⌜ r ≡ scaleOf tolerance start end ⌝ }
 {
     tolerance.absolute
-        + tolerance.relative * binary64::max(binary64::abs(start), binary64::abs(end))
+        + tolerance.relative * total_order::max(binary64::abs(start), binary64::abs(end))
 }
 
 fn not_scaled(refusal: Refusal) -> Scaled
@@ -54,7 +54,7 @@ pub fn greatest(
         if !(binary64::is_finite(scaled) & !(1.0 < scaled)) {
             return not_scaled(Refusal::Residual);
         }
-        greatest = binary64::max(greatest, scaled);
+        greatest = total_order::max(greatest, scaled);
     }
     Scaled {
         reply: Reply::Done,

@@ -17,7 +17,7 @@ pub fn event_of(part: &[u8], i: usize) -> Event
     ensures { λ r. ⌜ r ≡ eventOf (wordsOf (now (part .entry))) i ⌝ }
 {
     let at = EVENT * i;
-    layout::event_from(
+    event_fields::event_from(
         sheet_words::word(part, at),
         sheet_words::word(part, at + 1),
         sheet_words::word(part, at + 2),

@@ -27,7 +27,7 @@ fn event_fits(part: &[u8], i: usize) -> bool
     ensures { λ r. ⌜ r ≡ eventFits (wordsOf (now (part .entry))) i ⌝ }
 {
     let at = EVENT * i;
-    layout::listed(
+    event_fields::listed(
         sheet_words::word(part, at),
         sheet_words::word(part, at + 4),
         sheet_words::word(part, at + 5),

@@ -13,7 +13,8 @@ use Rattle.matrix.proofs.Filled.{tabulate-length}
 use Rattle.protocol.specs.declared.Event.{Event}
 use Rattle.protocol.specs.declared.Event.the-variants.{Bolus, Infusion, Reset}
 use Rattle.protocol.specs.Events.{time}
-use Rattle.layout.specs.Layout.{wordAt, eventFrom, eventOf, eventCount, eventsOf}
+use Rattle.event_fields.specs.Fields.{eventFrom}
+use Rattle.layout.specs.Layout.{wordAt, eventOf, eventCount, eventsOf}
 use Rattle.sheet_kernel.specs.Values.{doubleOf, windowOf}
 use Rattle.sheet_run.specs.SheetRun.{reckonedOf}
 

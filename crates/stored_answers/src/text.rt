@@ -7,7 +7,7 @@ ghost use lib.ListN.{length};
 // The most numbers that are kept of a line.
 pub const ROOM: usize = 256;
 
-const INPUT: usize = 131072;
+const INPUT: usize = 262144;
 
 // The first place from `at` on that has the byte, or else the text's end.
 pub fn end(text: &[u8], at: usize, byte: u8) -> usize
@@ -56,7 +56,7 @@ pub fn is_comment(line: &[u8]) -> bool {
 
 // Room for standard input. Input that fills it is cut, so that answers are missing.
 pub fn room() -> [u8; INPUT]
-    ensures { λ r. ⌜ 131072 ≡ length r ⌝ }
+    ensures { λ r. ⌜ 262144 ≡ length r ⌝ }
 {
     [0; INPUT]
 }

@@ -5,14 +5,13 @@ use Rattle.replay_cycles.proofs.compare.words_agree.Statement.{statemen
 use Rattle.replay_cycles.proofs.compare.words_agree.Tie as tie
 
 abbrev Inv-loop : tie.InvT-loop
-Inv-loop own words at ok₀ i₀ ok i = i ≤ 6
+Inv-loop pieces count words at ok₀ i₀ ok i = i ≤ count
 
 abbrev μ-loop : tie.MeasureT-loop
-μ-loop own words at ok₀ i₀ ok i = 6 - i
+μ-loop pieces count words at ok₀ i₀ ok i = count - i
 
 pub words-agree-spec : {M : Type 1} → statement M
 words-agree-spec =
     tie.close
     (tie.spec
-    Inv-loop μ-loop (λ c. search needs) (λ c. search needs) (λ c. search needs) (λ c. search needs) (λ c. search needs) (λ c. search needs)
-    (λ c. search needs) (λ c. search needs) (λ c. search needs) (λ c. search needs))
+    Inv-loop μ-loop (λ c. search needs) (λ c. search needs) (λ c. search needs) (λ c. search needs) (λ c. search needs) (λ c. search needs) (λ c. search needs) (λ c. search needs) (λ c. search needs) (λ c. search needs))

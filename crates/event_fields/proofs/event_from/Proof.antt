@@ -1,9 +1,9 @@
--- `layout::event_from` meets its contract.
+-- `event_fields::event_from` meets its contract.
 use borrow.Author.Tests.{eq-eqb, ne-eqb}
-use Rattle.layout.specs.Layout.{eventFrom}
+use Rattle.event_fields.specs.Fields.{eventFrom}
 use borrow.Author.Needs.{needs}
-use Rattle.layout.proofs.event_from.Statement.{statement}
-use Rattle.layout.proofs.event_from.Tie as tie
+use Rattle.event_fields.proofs.event_from.Statement.{statement}
+use Rattle.event_fields.proofs.event_from.Tie as tie
 
 returns : tie.Need-returns
 unfolding eventFrom
