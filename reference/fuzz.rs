@@ -1,5 +1,5 @@
 //! The target of libFuzzer: a sheet through the C interface and over the Rust,
-//! printouts compared, every buffer on the heap and of the exact size, so that
+//! its run and its closed cycle, printouts compared, every buffer on the heap and of the exact size, so that
 //! the address sanitizer sees each byte beyond it. A mutator keeps the head of
 //! most sheets right, so that changes reach the model and the run.
 #![no_main]
@@ -14,6 +14,8 @@ mod run_draw;
 #[allow(dead_code)]
 mod run_entry;
 #[allow(dead_code)]
+mod rust_cycle;
+#[allow(dead_code)]
 mod rust_run;
 #[allow(dead_code)]
 mod sheet;
@@ -27,6 +29,8 @@ mod sheet_entry;
 mod sheet_run;
 #[allow(dead_code)]
 mod slices;
+#[allow(dead_code)]
+mod steady_run;
 
 use draw::Random;
 use rust_run::EVENT;
@@ -34,27 +38,56 @@ use sheet::{bodies, words, Bodies, EVENTS, SAMPLES};
 use sheet_draw::{
     bytes, event, packed, pattern, states, COUNT, DEPOT, END, START, VOLUMES, WINDOW,
 };
-use sheet_entry::rig_run_sheet;
-use sheet_run::printout;
+use sheet_entry::{rig_run_sheet, RunSheet};
+use sheet_run::Printout;
 use std::process::abort;
 use std::sync::atomic::{AtomicU64, Ordering};
 
 extern "C" {
     fn LLVMFuzzerMutate(data: *mut u8, size: usize, most: usize) -> usize;
     fn atexit(call: extern "C" fn()) -> i32;
+    fn rig_steady_sheet(
+        sheet: *const u8,
+        sheet_length: usize,
+        out: *mut u8,
+        out_length: usize,
+        length: *mut usize,
+    ) -> u64;
 }
+
+/// An entry and what it must print.
+struct Entry {
+    name: &'static str,
+    call: RunSheet,
+    printout: fn(&[u8]) -> Printout,
+}
+
+const ENTRIES: [Entry; 2] = [
+    Entry {
+        name: "run",
+        call: rig_run_sheet,
+        printout: sheet_run::printout,
+    },
+    Entry {
+        name: "steady",
+        call: rig_steady_sheet,
+        printout: steady_run::printout,
+    },
+];
 
 /// What cells hold that the call must not write.
 const CELL: u8 = 200;
 
-/// How often each number came up; the last place is for all others.
-static NUMBERS: [AtomicU64; 64] = [const { AtomicU64::new(0) }; 64];
+/// How often each entry gave each number; the last place is for all others.
+static NUMBERS: [[AtomicU64; 64]; 2] = [const { [const { AtomicU64::new(0) }; 64] }; 2];
 
 extern "C" fn report() {
-    for (number, count) in NUMBERS.iter().enumerate() {
-        let count = count.load(Ordering::Relaxed);
-        if count > 0 {
-            eprintln!("number {number}: {count}");
+    for (entry, numbers) in ENTRIES.iter().zip(&NUMBERS) {
+        for (number, count) in numbers.iter().enumerate() {
+            let count = count.load(Ordering::Relaxed);
+            if count > 0 {
+                eprintln!("number {number} of {}: {count}", entry.name);
+            }
         }
     }
 }
@@ -64,12 +97,12 @@ pub extern "C" fn LLVMFuzzerInitialize(_: *mut i32, _: *mut *mut *mut u8) -> i32
     unsafe { atexit(report) }
 }
 
-/// What the call leaves in an output of this many bytes.
-fn call(sheet: &[u8], room: usize) -> (u64, usize, Vec<u8>) {
+/// What a call leaves in an output of this many bytes.
+fn call(entry: RunSheet, sheet: &[u8], room: usize) -> (u64, usize, Vec<u8>) {
     let mut out = vec![CELL; room].into_boxed_slice();
     let mut length = Box::new(usize::MAX);
     let number = unsafe {
-        rig_run_sheet(
+        entry(
             sheet.as_ptr(),
             sheet.len(),
             out.as_mut_ptr(),
@@ -80,24 +113,34 @@ fn call(sheet: &[u8], room: usize) -> (u64, usize, Vec<u8>) {
     (number, *length, out.into_vec())
 }
 
+/// Compares an entry's printout with that over the Rust; gives its number.
+fn compare(entry: &Entry, sheet: &[u8]) -> u64 {
+    let expected = (entry.printout)(sheet);
+    let text = expected.text.as_bytes();
+    let exact = call(entry.call, sheet, text.len());
+    if exact != (expected.number, text.len(), text.to_vec()) {
+        eprintln!("{}: expected {expected:?}, received {exact:?}", entry.name);
+        eprintln!("text: {}", String::from_utf8_lossy(&exact.2));
+        abort();
+    }
+    let short = call(entry.call, sheet, text.len() - 1);
+    if short != (4, 0, vec![CELL; text.len() - 1]) {
+        eprintln!(
+            "{}: expected 4 of {expected:?}, received {short:?}",
+            entry.name
+        );
+        abort();
+    }
+    expected.number
+}
+
 #[no_mangle]
 pub unsafe extern "C" fn LLVMFuzzerTestOneInput(data: *const u8, size: usize) -> i32 {
     let given = std::slice::from_raw_parts(data, size);
     let sheet: Box<[u8]> = given.into();
-    let expected = printout(given);
-    let text = expected.text.as_bytes();
-    NUMBERS[expected.number.min(63) as usize].fetch_add(1, Ordering::Relaxed);
-
-    let exact = call(&sheet, text.len());
-    if exact != (expected.number, text.len(), text.to_vec()) {
-        eprintln!("expected {expected:?}, received {exact:?}");
-        eprintln!("text: {}", String::from_utf8_lossy(&exact.2));
-        abort();
-    }
-    let short = call(&sheet, text.len() - 1);
-    if short != (4, 0, vec![CELL; text.len() - 1]) {
-        eprintln!("expected 4 of {expected:?}, received {short:?}");
-        abort();
+    for (entry, numbers) in ENTRIES.iter().zip(&NUMBERS) {
+        let number = compare(entry, &sheet);
+        numbers[number.min(63) as usize].fetch_add(1, Ordering::Relaxed);
     }
     if *sheet != *given {
         eprintln!("the sheet was changed");

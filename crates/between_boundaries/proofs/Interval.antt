@@ -9,7 +9,7 @@ use lib.Ieee.Scale.{finite}
 use Rattle.binary64.specs.Doubles.{plusZero}
 use Rattle.binary64.specs.Lists.{all}
 use Rattle.protocol.specs.Events.{inside}
-use Rattle.protocol.specs.Schedule.{Step, rates, reading, arrive, onInterval}
+use Rattle.protocol.specs.Schedule.{rates, reading, arrive, onInterval}
 use Rattle.protocol.specs.Execute.{Propagator}
 use Rattle.rows.specs.Written.{Cells}
 use Rattle.rows.specs.Told.{Ran, Fits}

@@ -1,14 +1,13 @@
 -- The readings of an interval, sample by sample.
 use mathlib.Core.Path.{_≡_, refl, sym, ap, ap₂, _∙_, subst}
-use Prim.Native.Nat.{ℕ, suc, _+_, _<_, _≤_}
+use Prim.Native.Nat.{ℕ, _+_, _<_, _≤_}
 use native.Mathlib.Numerals.{add-one}
 use native.Mathlib.Omega.{arith}
 use mathlib.Core.Bool.{Bool, true, false, _&&_}
-use mathlib.Core.List.{List, [], _∷_, _++_, map, append-assoc, append-nil}
+use mathlib.Core.List.{List, [], _∷_, _++_, map, append-nil}
 use lib.ListN.{length, getD, take, drop, take-append-drop}
-use lib.Seq.{take-suc, take-all, drop-cons}
+use lib.Seq.{take-suc, take-all}
 use lib.Ieee.{Float, nan, lt}
-use Rattle.binary64.specs.Doubles.{plusZero}
 use Rattle.binary64.specs.Lists.{pick, keep}
 use Rattle.protocol.specs.Events.{inside}
 use Rattle.protocol.specs.Schedule.{Step, reading}

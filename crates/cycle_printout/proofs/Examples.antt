@@ -3,13 +3,13 @@ use mathlib.Core.Path.{_≡_, refl}
 use mathlib.Core.Bool.{true, false}
 use mathlib.Core.List.{[], _∷_}
 use Prim.Native.Nat.{ℕ}
-use lib.IntN.{pos, negsuc}
+use lib.IntN.{pos}
 use lib.Ieee.{Float, fin, toBits, add, sub, mul, div, neg, le, lt, eq, isNan}
 use Rattle.binary64.specs.Doubles.{plusZero, one, magnitude, larger}
 use Rattle.printout.specs.Printout.{glyph, digits, places, decimal, hexadecimal, bitsOf, doubleText, refusedText}
 use Rattle.cycle.specs.declared.SteadyStateTolerance.{SteadyStateTolerance}
-use Rattle.cycle.specs.Closed.{Timed, stopped, got, scaleOf, scaledOf}
-use Rattle.cycle_printout.specs.CyclePrintout.{NextCycle, fieldText, cycleLine, cycleLines, stateCloses, closes, verdictLine, linesText, cycleText}
+use Rattle.cycle.specs.Closed.{stopped, got, scaleOf, scaledOf}
+use Rattle.cycle_printout.specs.CyclePrintout.{fieldText, cycleLine, cycleLines, stateCloses, closes, verdictLine, linesText, cycleText}
 
 unfoldable opened : ℕ
 unfolding add sub mul div neg le lt eq isNan glyph digits places decimal hexadecimal bitsOf toBits doubleText refusedText magnitude larger scaleOf scaledOf fieldText cycleLine cycleLines stateCloses closes verdictLine linesText cycleText

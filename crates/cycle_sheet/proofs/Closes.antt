@@ -1,13 +1,13 @@
 -- A sheet whose closed cycle is refused has that refusal, and one that is solved closes. The most bytes of a printout.
 use mathlib.Core.Path.{_≡_, refl, sym, ap, _∙_, subst}
-use mathlib.Core.Bool.{Bool, true, false, cond, _&&_}
+use mathlib.Core.Bool.{Bool, true}
 use mathlib.Core.List.{List, [], _∷_}
-use Prim.Native.Nat.{ℕ, suc, _+_, _*_, _≤_, _<_}
+use Prim.Native.Nat.{ℕ, suc, _≤_, _<_}
 use native.Mathlib.Omega.{arith}
 use native.Mathlib.Nat.{suc-inj}
 use borrow.Author.Tests.{eq-eqb, leb-true}
-use lib.Dec.{T, eqb, leb}
-use lib.ListN.{length, getD, length-append}
+use lib.Dec.{T, leb}
+use lib.ListN.{length}
 use lib.Seq.{take-all}
 use lib.Ieee.{Float, nan, binary64, sub, le}
 use lib.Ieee.Scale.{finite}
@@ -16,7 +16,7 @@ use Rattle.refusal.specs.Result.{Result, refused, done}
 use Rattle.linear_pk.specs.LinearPk.{sound, stateCount}
 use Rattle.linear_pk.specs.declared.kernel.LinearPk.{LinearPk}
 use Rattle.linear_pk.proofs.Counted.{and-first}
-use Rattle.matrix.specs.Matrix.{cell, tabulate}
+use Rattle.matrix.specs.Matrix.{cell}
 use Rattle.matrix.proofs.Filled.{tabulate-length, tabulate-at}
 use Rattle.layout.specs.Layout.{eventCount}
 use Rattle.sheet.specs.Sheet.{Sheet, readSheet}
@@ -26,7 +26,7 @@ use Rattle.printout.specs.Printout.{bitsOf, refusedText}
 use Rattle.printout.proofs.Lengths.{places-most, refused-text-length}
 use Rattle.cycle.specs.declared.SteadyStateTolerance.{SteadyStateTolerance}
 use Rattle.cycle.specs.Closed.{Timed, stopped, got, then, untimed, scaleOf, scaledOf, residualsOf, Solved}
-use Rattle.cycle.proofs.Results.{no-answer, same-answer}
+use Rattle.cycle.proofs.Results.{no-answer}
 use Rattle.sheet_run.proofs.Amounts.{few-states}
 use Rattle.cycle_tolerance.specs.CycleTolerance.{toleranceOf}
 use Rattle.sheet_cycle.specs.SheetCycle.{steadyWith}
@@ -37,7 +37,7 @@ use Rattle.cycle_printout.proofs.Lines.{text-length}
 use Rattle.next_run.specs.NextRun.{nextWith}
 use Rattle.next_run.proofs.Next.{accepts, sized, end, next-ends, answers, end-width}
 use Rattle.next_cycle.proofs.Refusals.{next-stops}
-use Rattle.cycle_sheet.specs.CycleSheet.{nextSheet, nextOfBytes, NextCloses, EveryNextCycleCloses, mostCycleBytes, EveryCyclePrintoutFits}
+use Rattle.cycle_sheet.specs.CycleSheet.{nextSheet, nextOfBytes, EveryNextCycleCloses, mostCycleBytes, EveryCyclePrintoutFits}
 
 holds : (b : Bool) → T b → b ≡ true
 holds true h = refl

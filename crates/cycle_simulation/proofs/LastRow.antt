@@ -1,14 +1,14 @@
 -- The run's last row is where its cycle ends.
-use mathlib.Core.Path.{_≡_, refl, sym, ap, ap₂, _∙_, subst}
-use mathlib.Core.Bool.{Bool, true, _&&_}
+use mathlib.Core.Path.{_≡_, refl, sym, ap, _∙_, subst}
+use mathlib.Core.Bool.{Bool, true}
 use mathlib.Core.List.{List, [], _∷_, _++_}
-use mathlib.Core.Option.{Option, none}
+use mathlib.Core.Option.{none}
 use Prim.Native.Nat.{ℕ, _+_, _-_, _*_, _≤_}
 use native.Mathlib.Nat.{le-trans, mul-le-mul-right, suc-mul}
 use native.Mathlib.Numerals.{add-one}
 use native.Mathlib.Omega.{arith}
 use borrow.Author.Tests.{le-leb}
-use lib.Dec.{T, leb}
+use lib.Dec.{T}
 use lib.ListN.{length, take, drop, getD, replicate, length-append}
 use lib.Ieee.{Float}
 use Rattle.binary64.specs.Doubles.{plusZero}
@@ -19,8 +19,8 @@ use Rattle.linear_pk.specs.declared.kernel.LinearPk.{LinearPk}
 use Rattle.protocol.specs.declared.Event.{Event}
 use Rattle.protocol.specs.declared.Window.{Window}
 use Rattle.protocol.specs.Prepare.{reckoned}
-use Rattle.protocol.specs.Execute.{Row, Pre, State, Outcome, go, runOf}
-use Rattle.protocol.specs.Entry.{mostEvents, Room, ahead, Reply, replyOf, valuesAtExit}
+use Rattle.protocol.specs.Execute.{Row, Outcome, go}
+use Rattle.protocol.specs.Entry.{mostEvents, ahead, Reply, replyOf, valuesAtExit}
 use Rattle.protocol.specs.PlainRun.{PlainRun, EndRow, rowsLeft}
 use Rattle.protocol.proofs.EntryLaws.{simulate-runs, n-each, row-place}
 use Rattle.preparation.specs.Preparation.{ownNumber}
@@ -28,7 +28,7 @@ use Rattle.prepared_run.specs.KernelRun.{propagatorOf}
 use Rattle.simulation.specs.Entries.{room, simulateEntry, reported}
 use Rattle.run_report.specs.declared.Report.{Report}
 use Rattle.prepared_run.proofs.KernelRuns.{kernel-run}
-use Rattle.cycle.specs.Closed.{Timed, got, divided, lastPost, endOf, lastOf}
+use Rattle.cycle.specs.Closed.{got, divided, endOf, lastOf}
 use Rattle.cycle.proofs.InnerRuns.{run-leaves}
 use Rattle.cycle_simulation.specs.Goes.{Goes}
 

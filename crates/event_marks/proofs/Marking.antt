@@ -1,10 +1,9 @@
 -- Marks kept in place: each event's mark grows by the stopping resets so far.
 use mathlib.Core.Path.{_≡_, refl, ap, ap₂, sym, _∙_}
 use mathlib.Core.Bool.{Bool, true, false, _&&_, _||_}
-use mathlib.Core.List.{List, [], _∷_, _++_, zipWith}
+use mathlib.Core.List.{List, [], _∷_, zipWith}
 use Prim.Native.Nat.{ℕ, zero, suc, _+_, _≤_}
 use native.Mathlib.Nat.{le-antisymm}
-use native.Mathlib.Numerals.{add-one}
 use native.Mathlib.Omega.{arith}
 use lib.ListN.{length, getD, set, take}
 use lib.Ieee.{Float, eq}

@@ -1,13 +1,12 @@
 -- The events of a list, one by one.
-use mathlib.Core.Path.{_≡_, sym, ap, _∙_}
+use mathlib.Core.Path.{_≡_, sym, _∙_}
 use mathlib.Core.List.{List, map}
 use Prim.Native.Nat.{ℕ, _<_}
 use native.Mathlib.Omega.{arith}
-use lib.ListN.{length, getD, take, length-map, List·getD-map}
+use lib.ListN.{length, getD, length-map, List·getD-map}
 use lib.Seq.{take-all}
 use Rattle.matrix.specs.Matrix.{tabulate}
 use Rattle.events.proofs.Packing.{tabulate-take}
-use Rattle.protocol.specs.declared.Event.{Event}
 use Rattle.cycle_list.specs.Answers.{eventIn}
 use Rattle.cycle_list.specs.declared.Listed.{Listed}
 

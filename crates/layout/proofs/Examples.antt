@@ -1,10 +1,9 @@
 -- Events worked out from words: 01's bolus of 1 at 0, an infusion, a reset, and words outside the listed values.
 use mathlib.Core.Path.{_≡_, refl}
 use mathlib.Core.Bool.{true, false}
-use mathlib.Core.List.{List, [], _∷_}
+use mathlib.Core.List.{[], _∷_}
 use Prim.Native.Nat.{ℕ}
-use lib.IntN.{pos, negsuc}
-use lib.Ieee.{nan, fin, ofBits}
+use lib.Ieee.{nan, ofBits}
 use Rattle.binary64.specs.Doubles.{plusZero, one, half}
 use Rattle.matrix.specs.Matrix.{tabulate, allTo}
 use Rattle.protocol.specs.declared.Event.the-variants.{Bolus, Infusion, Reset}

@@ -6,7 +6,7 @@ use native.Mathlib.Omega.{arith}
 use borrow.Author.Tests.{ltb-true, leb-true}
 use lib.Dec.{ltb, leb}
 use Rattle.linear_pk.specs.declared.kernel.LinearPk.{LinearPk}
-use Rattle.refusal.specs.Result.{Result, refused, done, andThen, unless}
+use Rattle.refusal.specs.Result.{refused, done, andThen, unless}
 pub use Rattle.concentration.proofs.Counts.{and-first, and-second, amounts-count}
 use Rattle.linear_pk.specs.LinearPk.{counted, stateCount, place, mostCompartments, sound, ratesFinite}
 

@@ -2,7 +2,7 @@
 -- their solution over an interval in `interval/specs/Interval.antt`, amounts by volume in `concentration/specs/Concentrations.antt`.
 use mathlib.Core.Bool.{Bool, false, _&&_, cond}
 use mathlib.Core.List.{List}
-use Prim.Native.Nat.{ℕ, _+_, _-_, _*_, _/_}
+use Prim.Native.Nat.{ℕ, _+_, _-_, _*_}
 use lib.Dec.{eqb, ltb, leb}
 use lib.ListN.{length, replicate}
 use lib.Ieee.{Float}

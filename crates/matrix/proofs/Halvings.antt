@@ -1,5 +1,5 @@
 -- One turn of the count of halvings.
-use mathlib.Core.Path.{_≡_, refl}
+use mathlib.Core.Path.{_≡_}
 use mathlib.Core.Bool.{true, false}
 use Prim.Native.Nat.{ℕ, suc}
 use lib.Ieee.{Float, lt, mul, binary64}

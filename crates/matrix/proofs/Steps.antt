@@ -1,5 +1,5 @@
 -- One step of each definition, in the words of the code.
-use mathlib.Core.Path.{_≡_, refl, sym, ap, _∙_}
+use mathlib.Core.Path.{_≡_, ap, _∙_}
 use mathlib.Core.Bool.{Bool, true, false, not, cond}
 use mathlib.Core.List.{List, []}
 use Prim.Native.Nat.{ℕ, suc, _+_, _≤_, _<_}
@@ -11,7 +11,7 @@ use lib.ListN.{length, getD, set, replicate, length-replicate, getD-replicate}
 use lib.Seq.{getD-set-same, getD-set-other}
 use lib.Ieee.{Float, nan, binary64, ofInt}
 use Rattle.binary64.specs.Doubles.{plusZero, one}
-use Rattle.matrix.specs.Matrix.{Matrix, cell, at, table, tabulate, identity}
+use Rattle.matrix.specs.Matrix.{Matrix, cell, at, identity}
 use Rattle.matrix.specs.Arrays.{block, lead, Holds, updated, rowHalf, rowTimes, rowQuotient, rowSumOf}
 use Rattle.matrix.specs.Exponential.{halvedTimes, series, nextTerm, squarings}
 use Rattle.matrix.proofs.Updated.{updated-length}

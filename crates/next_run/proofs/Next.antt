@@ -1,17 +1,17 @@
 -- A closed cycle that is solved: its list folds, and the run of that list from the amounts reaches the end.
-use mathlib.Core.Path.{_≡_, refl, sym, ap, ap₂, _∙_, subst}
+use mathlib.Core.Path.{_≡_, refl, sym, ap, _∙_, subst}
 use mathlib.Core.Bool.{Bool, true, false}
 use mathlib.Core.List.{List, [], _∷_, _++_, map}
 use mathlib.Core.Option.{Option, some, none}
-use Prim.Native.Nat.{ℕ, _+_, _*_, _≤_}
+use Prim.Native.Nat.{ℕ, _+_, _≤_}
 use native.Mathlib.Omega.{arith}
 use borrow.Author.Tests.{le-leb, eq-eqb}
 use lib.Dec.{T}
-use lib.ListN.{length, take, drop}
+use lib.ListN.{length, take}
 use lib.Ieee.{Float}
 use Rattle.binary64.specs.Doubles.{nonnegative}
 use Rattle.binary64.specs.Lists.{all, amountsPass}
-use Rattle.refusal.specs.Result.{Result, refused, done, valueOr}
+use Rattle.refusal.specs.Result.{Result, refused, done}
 use Rattle.refusal.specs.Numbers.{resultOf}
 use Rattle.refusal.specs.declared.Reply.{Reply}
 use Rattle.refusal.specs.declared.Reply.the-variants.{Done, Refused}
@@ -33,13 +33,12 @@ use Rattle.layout.proofs.Laws.{front-events}
 use Rattle.sheet_kernel.specs.Values.{doubleOf, doublesFrom, windowOf}
 use Rattle.cycle.specs.declared.SteadyStateTolerance.{SteadyStateTolerance}
 use Rattle.cycle.specs.Fold.{fold}
-use Rattle.cycle.specs.Closed.{Timed, stopped, got, then, untimed, unlessFails, unlessNumber, tolerancePasses, divided, ready, lastPost, endOf, lastOf, Solved, closed}
+use Rattle.cycle.specs.Closed.{got, then, untimed, unlessFails, unlessNumber, tolerancePasses, divided, ready, lastPost, endOf, lastOf, Solved, closed}
 use Rattle.cycle.specs.ClosedCycle.{TimesFit, Yields, Accepts, Answers, ClosedCycle}
 use Rattle.cycle.proofs.Theorems.{closed-cycle}
 use Rattle.cycle.proofs.InnerRuns.{ready-inner}
 use Rattle.cycle.proofs.Results.{no-answer, same-answer}
 use Rattle.steady_state.specs.Entry.{foldEntry, eventIn, Answer, answerOf, told}
-use Rattle.cycle_list.specs.declared.Listed.{Listed}
 use Rattle.cycle_list.specs.declared.FoldedCycle.{FoldedCycle}
 use Rattle.steady_state.proofs.Listing.{entry-folds}
 use Rattle.sheet_run.specs.SheetRun.{doublesOf}
@@ -48,7 +47,6 @@ use Rattle.cycle_tolerance.specs.CycleTolerance.{toleranceOf}
 use Rattle.sheet_cycle.specs.SheetCycle.{steadyWith}
 use Rattle.sheet_cycle.proofs.Kept.{Sized, Kept, steady-kept}
 use Rattle.cycle_simulation.specs.Goes.{Goes}
-use Rattle.cycle_printout.specs.CyclePrintout.{NextCycle}
 use Rattle.next_run.specs.NextRun.{nextWith}
 use Rattle.next_run.specs.Solves.{Solves}
 

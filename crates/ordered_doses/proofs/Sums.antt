@@ -1,6 +1,5 @@
 -- `ordered`, event by event.
 use mathlib.Core.Path.{_≡_, sym, ap, _∙_}
-use mathlib.Core.List.{List, [], _∷_}
 use Prim.Native.Nat.{ℕ, zero, suc, _+_}
 use native.Mathlib.Nat.{add-zero, zero-add, suc-add, add-suc}
 use lib.Ieee.{Float}

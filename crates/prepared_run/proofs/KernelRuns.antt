@@ -1,5 +1,5 @@
 -- The kernel's advance has the laws that a run asks: 3 exactly for arguments that do not pass, else 20, 21 or 22, or n amounts that pass.
-use mathlib.Core.Path.{_≡_, refl, sym, ap, _∙_, subst}
+use mathlib.Core.Path.{_≡_, refl, sym, _∙_, subst}
 use mathlib.Core.Bool.{Bool, true, false, not, _&&_, _||_}
 use mathlib.Core.List.{List, [], _∷_}
 use mathlib.Core.Logic.{_↔_}
@@ -7,7 +7,7 @@ use Prim.Native.Nat.{ℕ, zero, suc, _+_}
 use native.Mathlib.Nat.{le-refl}
 use native.Mathlib.Omega.{arith}
 use borrow.Author.Tests.{le-leb, eq-eqb}
-use lib.Dec.{T, eqb, leb}
+use lib.Dec.{T, eqb}
 use lib.ListN.{length}
 use lib.Ieee.{Float, binary64, mul, lt, eq}
 use lib.Ieee.Scale.{finite}
@@ -15,12 +15,12 @@ use Rattle.binary64.specs.Doubles.{plusZero, half, nonnegative}
 use Rattle.binary64.specs.Lists.{all, amountsPass}
 use Rattle.refusal.specs.Result.{Result, refused, done, andThen, unless}
 use Rattle.matrix.specs.Matrix.{Matrix, cell, tabulate, table, allTo}
-use Rattle.matrix.specs.Exponential.{Scheme, scheme, Exponential, normTo, halvings, countOf, taylor, allFinite, exponential}
+use Rattle.matrix.specs.Exponential.{Scheme, scheme, normTo, halvings, countOf, taylor, allFinite, exponential}
 use Rattle.matrix.proofs.Filled.{tabulate-length}
 use Rattle.interval.specs.Interval.{blockCell, propagator, amountTo, applied, over, interval}
 use Rattle.linear_pk.specs.LinearPk.{stateCount, sound, advance}
 use Rattle.linear_pk.specs.declared.kernel.LinearPk.{LinearPk}
-use Rattle.protocol.specs.PlainRun.{oneOf, argumentsPass, KernelLaws}
+use Rattle.protocol.specs.PlainRun.{oneOf, argumentsPass}
 use Rattle.protocol.proofs.Theorems.{plain-run}
 use Rattle.prepared_run.specs.KernelRun.{propagatorOf, EveryKernel, EveryKernelRun}
 

@@ -1,25 +1,24 @@
 -- A whole run that no test ahead refuses: what it leaves is what `simulate` says.
 use mathlib.Core.Path.{_≡_, refl, sym, ap, ap₂, _∙_, subst}
-use mathlib.Core.Bool.{Bool, true, false, cond, not, _&&_}
+use mathlib.Core.Bool.{Bool, true, false, cond, not}
 use mathlib.Core.List.{List, [], _∷_, _++_, append-assoc}
-use mathlib.Core.Option.{Option, some, none}
-use Prim.Native.Nat.{ℕ, suc, _+_, _-_, _*_, _≤_, zero-le}
+use mathlib.Core.Option.{some, none}
+use Prim.Native.Nat.{ℕ, _+_, _-_, _*_, _≤_, zero-le}
 use native.Mathlib.Nat.{le-refl, zero-mul, mul-le-mul-right}
 use native.Mathlib.Omega.{arith}
 use lib.Dec.{T, leb, leb→le}
 use lib.ListN.{length, take, drop, replicate, length-append, length-replicate}
-use lib.Seq.{take-at, drop-at}
-use lib.Ieee.{Float, binary64, fits, eq}
-use Rattle.binary64.specs.Doubles.{plusZero, totalLe}
+use lib.Seq.{drop-at}
+use lib.Ieee.{Float}
+use Rattle.binary64.specs.Doubles.{plusZero}
 use Rattle.binary64.specs.Lists.{all, gather, amountsPass}
 use Rattle.binary64.proofs.Sorted.{All}
-use Rattle.binary64.specs.Sort.{insertBy, sortBy, firstsFrom, firsts}
+use Rattle.binary64.specs.Sort.{firsts}
 use Rattle.protocol.specs.declared.Event.{Event}
-use Rattle.protocol.specs.declared.Event.the-variants.{Bolus, Infusion, Reset}
 use Rattle.protocol.specs.declared.Window.{Window}
-use Rattle.protocol.specs.Events.{time, instants, boundaryTimes, boundaries, sortedUnique}
+use Rattle.protocol.specs.Events.{time}
 use Rattle.protocol.specs.Prepare.{reckoned, prepare}
-use Rattle.refusal.specs.Result.{Result, refused, done, andThen, unless}
+use Rattle.refusal.specs.Result.{Result, done, andThen, unless}
 use Rattle.linear_pk.specs.declared.kernel.LinearPk.{LinearPk}
 use Rattle.linear_pk.specs.LinearPk.{stateCount, counted, ratesFinite, sound}
 use Rattle.protocol.specs.Execute.{Row, Outcome, go, stop, run, begin, runOf}
@@ -28,12 +27,10 @@ use Rattle.protocol.specs.PlainRun.{Prepared, PlainRun, rowsLeft}
 use Rattle.protocol.specs.Schedule.{schedule}
 use Rattle.protocol.proofs.EntryLaws.{Passes, ahead-none, laid-length, one-each, width, n-each}
 use Rattle.protocol.proofs.ListLaws.{both, all→All, All-map}
-use Rattle.protocol.proofs.RowCounts.{schedule-within, instants-most, length-sortedUnique}
 use Rattle.rows.specs.declared.Progress.{Progress}
 use Rattle.rows.specs.Written.{put, Cells, cells, written, Room}
-use Rattle.rows.specs.Told.{Told, told, behindOf, after, Fits, Ran, kernelAdvance}
+use Rattle.rows.specs.Told.{Told, told, behindOf, after, Ran, kernelAdvance}
 use Rattle.rows.proofs.Exits.{written-times, written-sides, written-values, put-zeros, progressReply, ran-reply, ran-rows}
-use Rattle.rows.proofs.Lengths.{most, schedule-most}
 use Rattle.rows.proofs.Parts.{ran-same}
 use Rattle.rows.proofs.Puts.{room-less}
 use Rattle.prepared_run.specs.KernelRun.{propagatorOf}

@@ -18,18 +18,6 @@ ghost use Prim.Native.Nat.{_≤_};
 ghost use lib.ListN.{length};
 ghost use Rattle.replay_cycles.specs.Places.{Held};
 
-fn window(words: &[u64; ROOM]) -> Window {
-    Window {
-        start: bit_patterns::of_bits(words[WINDOW]),
-        end: bit_patterns::of_bits(words[WINDOW + 1]),
-        rtol: bit_patterns::of_bits(words[WINDOW + 2]),
-        atol: bit_patterns::of_bits(words[WINDOW + 3]),
-        propagations: words[WINDOW + 4],
-        events: words[WINDOW + 5] as usize,
-        outputs: words[WINDOW + 6] as usize,
-    }
-}
-
 // The fold of the events whose words end at a place.
 fn fold(
     kernel: LinearPk,
@@ -53,7 +41,14 @@ fn folded(words: &[u64; ROOM], shape: Shape, pieces: &mut [u64]) -> FoldedWords
     let at = shape::samples_at(shape.events);
     let samples = stored_answers::doubles(words, at);
     let s = stored_answers::count(words, at, &samples);
-    fold(kernel, window(words), words, at, &samples[..s], pieces)
+    fold(
+        kernel,
+        stored_answers::window(words, WINDOW),
+        words,
+        at,
+        &samples[..s],
+        pieces,
+    )
 }
 
 // Folds the cycle of a line's numbers and compares.

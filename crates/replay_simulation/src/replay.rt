@@ -15,7 +15,6 @@ use crate::shape::Shape;
 use crate::shape::WINDOW;
 use events::EVENTS;
 use protocol::Event;
-use protocol::Window;
 use run_report::Report;
 use run_report::RunReply;
 use stored_answers::Outcome;
@@ -46,18 +45,6 @@ fn answered(reply: RunReply) -> Answer {
         RunReply::Reached { .. } => true,
     };
     Answer { report, began }
-}
-
-fn window(words: &[u64; ROOM]) -> Window {
-    Window {
-        start: bit_patterns::of_bits(words[WINDOW]),
-        end: bit_patterns::of_bits(words[WINDOW + 1]),
-        rtol: bit_patterns::of_bits(words[WINDOW + 2]),
-        atol: bit_patterns::of_bits(words[WINDOW + 3]),
-        propagations: words[WINDOW + 4],
-        events: words[WINDOW + 5] as usize,
-        outputs: words[WINDOW + 6] as usize,
-    }
 }
 
 // Whether the words of the events, which end at a place, are events.
@@ -97,7 +84,7 @@ fn run(
     answered(simulation::simulate(
         kernel,
         &amounts[..a],
-        window(words),
+        stored_answers::window(words, WINDOW),
         events,
         shape.events,
         &samples[..s],

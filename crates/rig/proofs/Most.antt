@@ -5,7 +5,7 @@ use mathlib.Core.List.{List, []}
 use Prim.Native.Nat.{ℕ, zero, suc, _+_, _*_, _/_, _≤_, _<_}
 use native.Mathlib.Nat.{le-trans}
 use native.Mathlib.Omega.{arith}
-use borrow.Author.Tests.{ltb-true, ltb-false, leb-true, lt-ltb}
+use borrow.Author.Tests.{leb-true, lt-ltb}
 use lib.Dec.{eqb, ltb, leb}
 use lib.ListN.{length, getD}
 use lib.Ieee.{Float}
@@ -16,10 +16,10 @@ use Rattle.linear_pk.specs.declared.kernel.LinearPk.{LinearPk}
 use Rattle.linear_pk.proofs.Counted.{and-first, and-second}
 use Rattle.protocol.specs.Entry.{replyOf, timesAtExit, sidesAtExit, valuesAtExit}
 use Rattle.layout.specs.Layout.{eventCount, eventsOf}
-use Rattle.sheet.specs.Sheet.{wordsOf, Sheet, sheetOf, withinLimits, readSheet}
+use Rattle.sheet.specs.Sheet.{Sheet, withinLimits, readSheet}
 use Rattle.sheet_kernel.specs.Values.{modelOf}
 use Rattle.sheet.proofs.Reading.{read-limits}
-use Rattle.printout.specs.Printout.{places, sideLength, rowsLength, textLength, refusedText}
+use Rattle.printout.specs.Printout.{places, rowsLength, textLength, refusedText}
 use Rattle.printout.proofs.Lengths.{text-length, refused-text-length}
 use Rattle.printout_reply.specs.Printouts.{Printout}
 use Rattle.ordered_doses.specs.OrderedDoses.{ordered}
@@ -27,8 +27,8 @@ use Rattle.sheet_run.specs.SheetRun.{runWith, reckonedOf}
 use Rattle.sheet_run.proofs.Amounts.{few-states}
 use Rattle.sheet_run.proofs.Words.{reckoned-words}
 use Rattle.run_printout.specs.RunPrintout.{outcomeText}
-use Rattle.run_printout.proofs.Runs.{Kept, run-kept}
-use Rattle.rig.specs.Rig.{runSheet, printoutOf, mostBytes, EveryPrintoutFits}
+use Rattle.run_printout.proofs.Runs.{run-kept}
+use Rattle.rig.specs.Rig.{printoutOf, mostBytes, EveryPrintoutFits}
 use Rattle.rig.proofs.Sheets.{sheet-refused, sheet-runs}
 
 -- ---- digits

@@ -1,24 +1,22 @@
 -- A sheet's printout, from its bodies.
 use mathlib.Core.Path.{_≡_, refl, sym, ap, _∙_, subst}
-use mathlib.Core.Bool.{Bool, true, _&&_}
-use mathlib.Core.List.{List, [], _∷_}
+use mathlib.Core.Bool.{true, _&&_}
+use mathlib.Core.List.{List}
 use Prim.Native.Nat.{ℕ, _-_, _*_, _/_, _≤_, _<_}
 use native.Mathlib.Omega.{arith}
 use borrow.Author.Tests.{leb-true, eqb-true}
-use lib.Dec.{leb, eqb}
+use lib.Dec.{leb}
 use lib.ListN.{length, take, drop}
-use Rattle.binary64.specs.Doubles.{plusZero}
 use Rattle.refusal.specs.Result.{Result, refused, done, andThen, number}
 use Rattle.linear_pk.specs.declared.kernel.LinearPk.{LinearPk}
 use Rattle.linear_pk.proofs.Counted.{and-first, and-second}
 use Rattle.layout.specs.Layout.{eventCount, eventsFit, eventsOf}
-use Rattle.sheet.specs.Sheet.{wordsOf, body, modelFits, windowFits, Sheet, sheetOf, withinLimits, readSheet}
-use Rattle.sheet.specs.Reader.{placesOf, placesRead, Located}
+use Rattle.sheet.specs.Sheet.{wordsOf, body, modelFits, windowFits, Sheet, sheetOf, readSheet}
+use Rattle.sheet.specs.Reader.{placesRead, Located}
 use Rattle.sheet_kernel.specs.Values.{modelOf}
 use Rattle.sheet_head.specs.declared.Places.{Places}
 use Rattle.sheet.proofs.Places.{words-length, body-at}
 use Rattle.sheet.proofs.Reading.{Passes, read-passes, reads, places-located}
-use Rattle.printout_reply.specs.Printouts.{Printout}
 use Rattle.printout_reply.specs.Replies.{refusal}
 use Rattle.ordered_doses.specs.OrderedDoses.{ordered}
 use Rattle.sheet_run.specs.SheetRun.{runWith}

@@ -1,13 +1,12 @@
 -- What a whole run leaves: the reply, and the cells of the three slices, as `simulate` has them.
-use mathlib.Core.Path.{_≡_, refl, sym, ap, ap₂, _∙_, subst}
+use mathlib.Core.Path.{_≡_, refl, sym, ap, _∙_}
 use Prim.Native.Nat.{ℕ, zero, suc, _+_, _-_, _*_, _≤_}
-use native.Mathlib.Nat.{add-zero, zero-add, suc-add, suc-mul, le-of-suc-le-suc, not-suc-le-zero}
+use native.Mathlib.Nat.{zero-add, suc-add, suc-mul, le-of-suc-le-suc, not-suc-le-zero}
 use native.Mathlib.Omega.{arith}
-use mathlib.Core.Bool.{Bool, true, false, cond}
+use mathlib.Core.Bool.{cond}
 use mathlib.Core.List.{List, [], _∷_, _++_}
-use lib.ListN.{length, take, drop, replicate, length-append}
-use lib.Ieee.{Float}
-use Rattle.refusal.specs.Result.{Result, refused, done}
+use lib.ListN.{length, take, drop, replicate}
+use Rattle.refusal.specs.Result.{done}
 use Rattle.binary64.proofs.Sorted.{All}
 use Rattle.binary64.specs.Lists.{gather}
 use Rattle.protocol.specs.Schedule.{Step}

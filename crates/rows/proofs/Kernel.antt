@@ -1,20 +1,20 @@
 -- What `advance` gives: a refusal's number is above 0, and the amounts are as many as were given.
 use mathlib.Core.Path.{_≡_, refl, sym, ap, _∙_, subst}
-use Prim.Native.Nat.{ℕ, zero, suc, _+_, _-_, _<_, _≤_}
+use Prim.Native.Nat.{ℕ, zero, suc, _+_, _<_}
 use native.Mathlib.Nat.{lt-irrefl}
 use native.Mathlib.Omega.{arith}
-use mathlib.Core.Bool.{Bool, true, false, _&&_, cond}
-use mathlib.Core.List.{List, [], _++_, append-nil}
-use lib.Dec.{T, leb}
-use lib.ListN.{length, take, drop, length-drop, length-append, drop-of-length-le}
-use lib.Seq.{length-take-le, take-append-le, take-all}
+use mathlib.Core.Bool.{Bool, true, false, _&&_}
+use mathlib.Core.List.{List, _++_, append-nil}
+use lib.Dec.{leb}
+use lib.ListN.{length, take, drop-of-length-le}
+use lib.Seq.{take-append-le, take-all}
 use lib.Ieee.{Float, binary64, mul, eq, lt}
 use lib.Ieee.Scale.{finite}
 use Rattle.binary64.specs.Doubles.{plusZero, half, nonnegative}
 use Rattle.refusal.specs.Result.{Result, refused, done, andThen, unless, number, laid}
 use Rattle.matrix.specs.Matrix.{Matrix, cell, tabulate, allTo}
 use Rattle.binary64.specs.Lists.{all, amountsPass}
-use Rattle.matrix.specs.Exponential.{Scheme, scheme, Exponential, halvings, countOf, normTo, taylor, allFinite, exponential}
+use Rattle.matrix.specs.Exponential.{Scheme, scheme, halvings, countOf, normTo, taylor, allFinite, exponential}
 use Rattle.matrix.proofs.Filled.{tabulate-length}
 use Rattle.interval.specs.Interval.{propagator, amountTo, applied, over, interval}
 use Rattle.linear_pk.specs.declared.kernel.LinearPk.{LinearPk}

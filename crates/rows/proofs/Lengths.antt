@@ -1,5 +1,5 @@
 -- How many steps a schedule has, so that its advances can be counted.
-use mathlib.Core.Path.{_≡_, refl, sym, ap, _∙_}
+use mathlib.Core.Path.{_≡_, refl, ap, _∙_}
 use Prim.Native.Nat.{ℕ, suc, _+_, _*_, _≤_}
 use native.Mathlib.Nat.{suc-mul}
 use native.Mathlib.Omega.{arith}
@@ -12,7 +12,7 @@ use Rattle.binary64.specs.Lists.{pick, keep}
 use Rattle.binary64.specs.Sort.{insertBy, sortBy}
 use Rattle.protocol.specs.declared.Event.{Event}
 use Rattle.protocol.specs.Events.{hasEvent, isReset, isBolus, byOrder, resets, boluses, inside}
-use Rattle.protocol.specs.Schedule.{Step, check, pre, post, apply, rates, reading, arrive, atBoundary, onInterval, summed, marked, following, fromFirst}
+use Rattle.protocol.specs.Schedule.{pre, post, apply, reading, arrive, atBoundary, onInterval, summed, marked, following, fromFirst}
 
 keep-most : {A : Type 0} (p : A → Bool) (xs : List A) → length (keep p xs) ≤ length xs
 keep-most p [] = omega arith

@@ -1,6 +1,6 @@
 -- Parts of a schedule in a row: what a block of the code gives goes on as the start of the next.
 use mathlib.Core.Path.{_≡_, refl, sym, ap, ap₂, _∙_, subst}
-use Prim.Native.Nat.{ℕ, zero, suc, _+_, _-_, _≤_}
+use Prim.Native.Nat.{ℕ, suc, _+_, _-_, _≤_}
 use native.Mathlib.Nat.{add-zero, sub-zero}
 use native.Mathlib.Omega.{arith}
 use mathlib.Core.Bool.{Bool, true, false, cond}
@@ -17,7 +17,7 @@ use Rattle.protocol.specs.Execute.{Propagator, Row, Advance, State, Outcome, go
 use Rattle.protocol.specs.PlainRun.{rowsLeft}
 use Rattle.protocol.proofs.Frame.{outBehind, run-parts}
 use Rattle.protocol.proofs.RowCounts.{total-append, rows-most}
-use Rattle.rows.specs.Written.{Cells, written, Room}
+use Rattle.rows.specs.Written.{Cells, written}
 use Rattle.rows.specs.Told.{Told, told, behindOf, after, Ran, Fits}
 use Rattle.rows.specs.declared.Progress.{Progress}
 use Rattle.rows.proofs.Puts.{written-append, Same, written-same, room-less}

@@ -7,7 +7,6 @@ use native.Mathlib.Omega.{arith}
 use mathlib.Core.List.{List, [], _∷_, _++_, append-nil}
 use lib.ListN.{length, take, drop, set, length-drop, drop-of-length-le}
 use lib.Seq.{take-all}
-use lib.Ieee.{Float}
 use borrow.Rule.Slice.PartMut.{putMid, post-is}
 use Rattle.protocol.specs.Execute.{Row}
 use Rattle.protocol.specs.Entry.{sideCode}

@@ -21,10 +21,10 @@ use Rattle.protocol.specs.declared.Window.{Window}
 use Rattle.protocol.specs.First as F
 use Rattle.protocol.specs.Events.{time}
 use Rattle.protocol.specs.Prepare.{windowPasses, within, eventsPass, reckoned, prepare}
-use Rattle.protocol.specs.Schedule.{Step, schedule}
-use Rattle.protocol.specs.Execute.{Propagator, Pre, Row, State, Outcome, go, stop, begin, runOf}
+use Rattle.protocol.specs.Schedule.{Step}
+use Rattle.protocol.specs.Execute.{Propagator, Pre, Row, State, Outcome, go, stop, runOf}
 use Rattle.protocol.specs.Entry.{mostEvents, mostSamples, Room, roomFor, ahead, simulate, Reply, replyOf, timesAtExit, sidesAtExit, valuesAtExit}
-use Rattle.protocol.specs.PlainRun.{oneOf, Meets, spent, overflows, refuses, state, dose, summed-rates, FirstMet, Prepared, PlainRun, rowsLeft}
+use Rattle.protocol.specs.PlainRun.{oneOf, Meets, spent, overflows, refuses, state, dose, summed-rates, Prepared, PlainRun, rowsLeft}
 use Rattle.protocol.proofs.EntryLaws.{Passes, n-each, ahead-none, simulate-runs, simulate-refuses}
 use Rattle.preparation.specs.Preparation.{ownNumber}
 use Rattle.prepared_run.specs.KernelRun.{propagatorOf}
@@ -34,11 +34,11 @@ use Rattle.prepared_run.proofs.KernelRuns.{kernel-run}
 use Rattle.prepared_run.proofs.Whole.{own-none}
 use Rattle.layout.specs.Layout.{eventsOf}
 use Rattle.sheet_kernel.specs.Values.{doubleOf, windowOf}
-use Rattle.printout.specs.Printout.{rowsText, refusedText, runText, headLine, orderedLine}
+use Rattle.printout.specs.Printout.{rowsText, runText, headLine, orderedLine}
 use Rattle.printout_reply.proofs.Replies.{refusal-text, refusal-some}
 use Rattle.sheet_run.specs.SheetRun.{doublesOf, roomOf, runWith, reckonedOf}
 use Rattle.sheet_run.proofs.Words.{all-made, times-made, start-made, end-made}
-use Rattle.run_printout.specs.RunPrintout.{rowText, outcomeText}
+use Rattle.run_printout.specs.RunPrintout.{outcomeText}
 use Rattle.run_printout.proofs.Lines.{row-lines}
 
 -- a sheet's list that passes has what is claimed of plain runs

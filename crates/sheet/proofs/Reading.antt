@@ -8,7 +8,6 @@ use borrow.Author.Tests.{leb-true}
 use lib.Dec.{T, eqb, leb}
 use lib.ListN.{length}
 use Rattle.refusal.specs.Result.{Result, refused, done, andThen, unless, number}
-use Rattle.layout.specs.Layout.{eventCount}
 use Rattle.sheet.specs.Sheet.{wordsOf, word, follow, placed, Sheet, sheetOf, bodiesFit, wordsFit, withinLimits, readSheet}
 use Rattle.sheet.specs.Reader.{placesOf, Located}
 use Rattle.sheet_head.specs.declared.Places.{Places}

@@ -22,7 +22,7 @@ use Rattle.layout.specs.Layout.{eventsOf}
 use Rattle.sheet_kernel.specs.Values.{windowOf}
 use Rattle.cycle.specs.Elimination.{System, systemOf, eliminateTo, leastPivot, solveTo, solve}
 use Rattle.cycle.specs.Closed.{Timed, stopped, got, then, untimed, columnsTo, lastOf, solution, residualsOf, Solved, closed}
-use Rattle.cycle.specs.ClosedCycle.{closedNumbers, Yields, ClosedCycle}
+use Rattle.cycle.specs.ClosedCycle.{closedNumbers, ClosedCycle}
 use Rattle.cycle.proofs.Candidates.{yields-solution}
 use Rattle.cycle.proofs.Theorems.{solve-sized, closed-cycle}
 use Rattle.cycle.proofs.Results.{no-answer, same-answer}

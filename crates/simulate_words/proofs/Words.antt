@@ -1,10 +1,9 @@
 -- A run of events that are laid out as words is the library's run of the array that they are read into.
 use mathlib.Core.Path.{_≡_, refl, sym, ap, ap₂, _∙_}
-use mathlib.Core.Bool.{Bool, true, false, cond, _&&_}
+use mathlib.Core.Bool.{Bool, true, false, _&&_}
 use mathlib.Core.List.{List, [], _∷_}
-use mathlib.Core.Option.{Option, some}
 use Prim.Native.Nat.{ℕ}
-use lib.Dec.{T, leb, leb→le}
+use lib.Dec.{leb, leb→le}
 use lib.ListN.{length, take}
 use lib.Ieee.{Float}
 use Rattle.binary64.specs.Lists.{amountsPass}

@@ -7,7 +7,7 @@ use lib.IntN.{pos, negsuc}
 use lib.Ieee.{Float, fin, toBits}
 use Rattle.binary64.specs.Doubles.{plusZero, one}
 use Rattle.printout.specs.Printout.{glyph, digits, places, decimal, hexadecimal, bitsOf, doubleText, refusedText}
-use Rattle.cycle.specs.Closed.{Timed, stopped, got, Solved}
+use Rattle.cycle.specs.Closed.{stopped, got}
 use Rattle.steady_printout.specs.SteadyPrintout.{stateLine, stateLines, maxLine, solvedText, steadyText}
 
 unfoldable opened : ℕ

@@ -14,7 +14,7 @@ use Rattle.printout.specs.Printout.{places, refusedText}
 use Rattle.printout.specs.Cells.{Wrote}
 use Rattle.printout.proofs.Lengths.{double-length, refused-text-length}
 use Rattle.printout.proofs.Printing.{Printed, no-room, with-room}
-use Rattle.cycle.specs.Closed.{Timed, stopped, got, Solved}
+use Rattle.cycle.specs.Closed.{stopped, got}
 use Rattle.steady_printout.specs.SteadyPrintout.{stateLine, stateLines, maxLine, solvedText, steadyText, solvedOf, replyOf, solvedLength, steadyLength}
 
 pub line-length : (a r : Float) → length (stateLine a r) ≡ 34

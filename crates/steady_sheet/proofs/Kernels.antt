@@ -1,14 +1,12 @@
 -- A kernel that `new` makes is sound.
-use mathlib.Core.Path.{_≡_, refl, sym, ap, _∙_}
+use mathlib.Core.Path.{_≡_, refl, sym}
 use mathlib.Core.Bool.{Bool, true, false}
 use mathlib.Core.List.{List}
 use Prim.Native.Nat.{ℕ}
 use native.Mathlib.Omega.{arith}
-use lib.Dec.{ltb, leb, eqb}
-use lib.ListN.{length}
 use lib.Ieee.{Float}
-use Rattle.refusal.specs.Result.{Result, refused, done, andThen, unless}
-use Rattle.linear_pk.specs.LinearPk.{counted, ratesFinite, sound, kernelOf, valuesPass, passes, new, mostCompartments}
+use Rattle.refusal.specs.Result.{refused, done, andThen, unless}
+use Rattle.linear_pk.specs.LinearPk.{counted, ratesFinite, sound, kernelOf, passes, new}
 use Rattle.linear_pk.specs.declared.kernel.LinearPk.{LinearPk}
 use Rattle.parameters.specs.declared.Absorption.{Absorption}
 use Rattle.linear_pk.proofs.Counted.{and-first}

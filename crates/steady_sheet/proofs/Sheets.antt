@@ -1,5 +1,5 @@
 -- What is made of a sheet's bodies: the reader's refusal, the model's, or what its kernel gives.
-use mathlib.Core.Path.{_≡_, refl, sym, ap, _∙_}
+use mathlib.Core.Path.{_≡_, refl, sym, ap}
 use mathlib.Core.List.{List, []}
 use Prim.Native.Nat.{ℕ, _-_, _<_}
 use native.Mathlib.Omega.{arith}
@@ -7,7 +7,7 @@ use lib.ListN.{take, drop}
 use Rattle.binary64.specs.Doubles.{plusZero}
 use Rattle.refusal.specs.Result.{Result, refused, done, number}
 use Rattle.linear_pk.specs.declared.kernel.LinearPk.{LinearPk}
-use Rattle.sheet.specs.Sheet.{wordsOf, Sheet, sheetOf, readSheet}
+use Rattle.sheet.specs.Sheet.{wordsOf, Sheet, readSheet}
 use Rattle.sheet.specs.Reader.{placesRead}
 use Rattle.sheet_kernel.specs.Values.{modelOf}
 use Rattle.sheet_head.specs.declared.Places.{Places}

@@ -17,7 +17,7 @@ use Rattle.layout.proofs.Laws.{front-events}
 use Rattle.protocol.specs.declared.Window.{Window}
 use Rattle.cycle.specs.declared.SteadyStateTolerance.{SteadyStateTolerance}
 use Rattle.cycle.specs.Fold.{mostCycleEvents}
-use Rattle.cycle.specs.Closed.{Timed, stopped, Solved, steadyReplyOf, answerAtExit}
+use Rattle.cycle.specs.Closed.{Timed, stopped, Solved}
 use Rattle.steady_reply.specs.Entry.{steadyEntry}
 use Rattle.steady_words.specs.Words.{steadyWords}
 

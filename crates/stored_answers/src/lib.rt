@@ -6,6 +6,7 @@ mod text;
 pub use parts::count;
 pub use parts::doubles;
 pub use parts::made;
+pub use parts::window;
 pub use tally::Outcome;
 pub use tally::Tally;
 pub use text::ROOM;

@@ -3,6 +3,7 @@ use crate::text::ROOM;
 use linear_pk::LinearPk;
 use linear_pk::Made;
 use parameters::Absorption;
+use protocol::Window;
 ghost use mathlib.Core.Path.{_≡_};
 ghost use Prim.Native.Nat.{_+_, _≤_, _<_};
 ghost use lib.ListN.{length, take};
@@ -29,6 +30,21 @@ pub fn doubles(words: &[u64; ROOM], at: usize) -> [f64; VALUES]
         list[i] = bit_patterns::of_bits(words[at + 1 + i]);
     }
     list
+}
+
+// The window at a place: start, end, tolerances, budgets.
+pub fn window(words: &[u64; ROOM], at: usize) -> Window
+    requires { ⌜ at + 6 < 256 ⌝ }
+{
+    Window {
+        start: bit_patterns::of_bits(words[at]),
+        end: bit_patterns::of_bits(words[at + 1]),
+        rtol: bit_patterns::of_bits(words[at + 2]),
+        atol: bit_patterns::of_bits(words[at + 3]),
+        propagations: words[at + 4],
+        events: words[at + 5] as usize,
+        outputs: words[at + 6] as usize,
+    }
 }
 
 // The absorption at a place: 0 for none, or 1; then the constant.

@@ -1,10 +1,10 @@
 -- Zeros over the front of a list, cell by cell.
-use mathlib.Core.Path.{_≡_, refl, sym, ap, _∙_}
-use Prim.Native.Nat.{ℕ, zero, suc, _+_, _-_, _<_, _≤_}
-use native.Mathlib.Nat.{le-of-suc-le-suc, sub-zero}
+use mathlib.Core.Path.{_≡_, refl, _∙_}
+use Prim.Native.Nat.{ℕ, zero, suc, _+_, _<_, _≤_}
+use native.Mathlib.Nat.{sub-zero}
 use native.Mathlib.Omega.{arith}
-use mathlib.Core.List.{List, [], _++_}
-use lib.ListN.{length, getD, set, drop, replicate, length-replicate}
+use mathlib.Core.List.{List, []}
+use lib.ListN.{length, getD, set, replicate, length-replicate}
 use Rattle.interval.proofs.Laid.{Laying, laying-start, laying-more, laying-done}
 use Rattle.protocol.specs.Entry.{laid}
 

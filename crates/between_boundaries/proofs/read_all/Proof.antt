@@ -1,5 +1,4 @@
 -- `between_boundaries::read_all` meets its contract. The invariant: the readings among the first k samples are made.
-use mathlib.Core.Path.{_≡_, refl}
 use borrow.Author.Needs.{needs}
 use Prim.Native.Nat.{_-_}
 use mathlib.Core.Logic.{⊎-elim}

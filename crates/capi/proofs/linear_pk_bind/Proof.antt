@@ -1,5 +1,4 @@
 -- `capi::linear_pk_bind` meets its contract.
-use mathlib.Core.Path.{_≡_, refl}
 use borrow.Author.Needs.{needs}
 use Rattle.capi.proofs.linear_pk_bind.Statement.{statement}
 use Rattle.capi.proofs.linear_pk_bind.Tie as tie

@@ -1,5 +1,4 @@
 -- `capi::linear_pk_concentrations` meets its contract.
-use mathlib.Core.Path.{_≡_, refl}
 use borrow.Author.Needs.{needs}
 use Rattle.capi.proofs.linear_pk_concentrations.Statement.{statement}
 use Rattle.capi.proofs.linear_pk_concentrations.Tie as tie

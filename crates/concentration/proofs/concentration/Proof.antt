@@ -1,5 +1,4 @@
 -- `concentration::concentration` meets its contract.
-use mathlib.Core.Path.{_≡_, refl}
 use borrow.Author.Needs.{needs}
 use native.Mathlib.Nat.{add-zero}
 use Rattle.concentration.proofs.concentration.Statement.{statement}

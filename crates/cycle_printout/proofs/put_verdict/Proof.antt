@@ -1,9 +1,5 @@
 -- `cycle_printout::put_verdict` meets its contract.
-use mathlib.Core.Path.{_≡_, subst, sym, ap}
-use native.Mathlib.Omega.{arith}
-use lib.ListN.{length}
 use Rattle.cycle_printout.specs.CyclePrintout.{verdictLine}
-use Rattle.cycle_printout.proofs.Lines.{verdict-length}
 use borrow.Author.Needs.{needs}
 use Rattle.cycle_printout.proofs.put_verdict.Statement.{statement}
 use Rattle.cycle_printout.proofs.put_verdict.Tie as tie

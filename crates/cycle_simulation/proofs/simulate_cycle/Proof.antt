@@ -1,5 +1,5 @@
 -- `cycle_simulation::simulate_cycle` meets its contract.
-use mathlib.Core.Path.{_≡_, ap, _∙_}
+use mathlib.Core.Path.{ap, _∙_}
 use native.Mathlib.Omega.{arith}
 use Prim.Native.Nat.{ℕ, _≤_}
 use Rattle.linear_pk.specs.LinearPk.{stateCount}

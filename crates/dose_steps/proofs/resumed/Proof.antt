@@ -1,5 +1,5 @@
 -- `dose_steps::resumed` meets its contract.
-use mathlib.Core.Path.{_≡_, refl}
+use mathlib.Core.Path.{refl}
 use lib.Ieee.{ofBits}
 use Rattle.dose_steps.proofs.resumed.Statement.{statement}
 use Rattle.dose_steps.proofs.resumed.Tie as tie

@@ -1,5 +1,4 @@
 -- `event_validation::event_passes` meets its contract.
-use mathlib.Core.Path.{_≡_, refl}
 use borrow.Author.Needs.{needs}
 use Rattle.event_validation.proofs.event_passes.Statement.{statement}
 use Rattle.event_validation.proofs.event_passes.Tie as tie

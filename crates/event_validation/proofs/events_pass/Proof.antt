@@ -1,5 +1,5 @@
 -- `event_validation::events_pass` meets its contract. The invariant: what is left to test gives the whole answer.
-use mathlib.Core.Path.{_≡_, refl}
+use mathlib.Core.Path.{_≡_}
 use borrow.Author.Needs.{needs}
 use native.Mathlib.Omega.{arith}
 use Prim.Native.Nat.{_≤_, _-_}

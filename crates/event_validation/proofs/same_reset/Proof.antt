@@ -1,5 +1,4 @@
 -- `event_validation::same_reset` meets its contract.
-use mathlib.Core.Path.{_≡_, refl}
 use borrow.Author.Needs.{needs}
 use Rattle.event_validation.proofs.same_reset.Statement.{statement}
 use Rattle.event_validation.proofs.same_reset.Tie as tie

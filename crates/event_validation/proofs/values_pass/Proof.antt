@@ -1,5 +1,4 @@
 -- `event_validation::values_pass` meets its contract.
-use mathlib.Core.Path.{_≡_, refl}
 use borrow.Author.Needs.{needs}
 use Rattle.event_validation.proofs.values_pass.Statement.{statement}
 use Rattle.event_validation.proofs.values_pass.Tie as tie

@@ -1,5 +1,4 @@
 -- `event_validation::within` meets its contract.
-use mathlib.Core.Path.{_≡_, refl}
 use borrow.Author.Needs.{needs}
 use Rattle.event_validation.proofs.within.Statement.{statement}
 use Rattle.event_validation.proofs.within.Tie as tie

@@ -1,5 +1,4 @@
 -- `events::target_of` meets its contract.
-use mathlib.Core.Path.{_≡_, refl}
 use borrow.Author.Needs.{needs}
 use Rattle.protocol.specs.Events.{target}
 use Rattle.events.proofs.target_of.Statement.{statement}

@@ -1,5 +1,4 @@
 -- `events::time_of` meets its contract.
-use mathlib.Core.Path.{_≡_, refl}
 use borrow.Author.Needs.{needs}
 use Rattle.events.proofs.time_of.Statement.{statement}
 use Rattle.events.proofs.time_of.Tie as tie

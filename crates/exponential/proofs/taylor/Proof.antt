@@ -1,5 +1,4 @@
 -- `exponential::taylor` meets its contract.
-use mathlib.Core.Path.{_≡_, refl}
 use borrow.Author.Needs.{needs}
 use Rattle.matrix.specs.Exponential.{taylor}
 use Rattle.exponential.proofs.taylor.Statement.{statement}

@@ -1,5 +1,5 @@
 -- `interval::interval` meets its contract.
-use mathlib.Core.Path.{_≡_, refl, sym}
+use mathlib.Core.Path.{refl, sym}
 use borrow.Author.Needs.{needs}
 use lib.Ieee.{ofBits}
 use Rattle.matrix.specs.Exponential.{scheme}

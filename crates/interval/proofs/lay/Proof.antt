@@ -1,7 +1,5 @@
 -- `interval::lay` meets its contract. The invariant: the first i values are laid.
-use mathlib.Core.Path.{_≡_, refl}
 use borrow.Author.Needs.{needs}
-use native.Mathlib.Omega.{arith}
 use Prim.Native.Nat.{_-_}
 use lib.ListN.{length}
 use lib.Ieee.{nan}

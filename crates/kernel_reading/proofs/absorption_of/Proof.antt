@@ -1,5 +1,4 @@
 -- `kernel_reading::absorption_of` meets its contract.
-use mathlib.Core.Path.{_≡_, refl}
 use Rattle.kernel_reading.proofs.absorption_of.Statement.{statement}
 use Rattle.kernel_reading.proofs.absorption_of.Tie as tie
 

@@ -1,5 +1,4 @@
 -- `kernel_reading::count_at` meets its contract.
-use mathlib.Core.Path.{_≡_, refl}
 use lib.Ieee.{ofBits}
 use Rattle.kernel_reading.proofs.count_at.Statement.{statement}
 use Rattle.kernel_reading.proofs.count_at.Tie as tie

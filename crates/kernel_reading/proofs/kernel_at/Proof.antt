@@ -1,5 +1,4 @@
 -- `kernel_reading::kernel_at` meets its contract.
-use mathlib.Core.Path.{_≡_, refl}
 use borrow.Author.Needs.{needs}
 use mathlib.Core.Bool.{_||_}
 use borrow.Author.Tests.{not-true, not-false, lt-leb, le-leb}

@@ -1,5 +1,4 @@
 -- `kernel_writing::bound_cell` meets its contract.
-use mathlib.Core.Path.{_≡_, refl}
 use borrow.Author.Needs.{needs}
 use borrow.Author.Tests.{lt-ltb, le-ltb}
 use Rattle.kernel_writing.specs.Writing.{boundCell}

@@ -1,5 +1,4 @@
 -- `kernel_writing::count_cell` meets its contract.
-use mathlib.Core.Path.{_≡_, refl}
 use borrow.Author.Tests.{eq-eqb, ne-eqb}
 use lib.Ieee.{ofBits}
 use Rattle.kernel_writing.proofs.count_cell.Statement.{statement}

@@ -1,5 +1,4 @@
 -- `kernel_writing::kernel_cell` meets its contract.
-use mathlib.Core.Path.{_≡_, refl}
 use borrow.Author.Needs.{needs}
 use borrow.Author.Tests.{eq-eqb, ne-eqb, lt-ltb, le-ltb}
 use lib.Ieee.{ofBits}

@@ -1,5 +1,4 @@
 -- `mammillary::central_rate` meets its contract.
-use mathlib.Core.Path.{_≡_, refl}
 use borrow.Author.Needs.{needs}
 use borrow.Author.Tests.{eq-eqb, ne-eqb}
 use Rattle.mammillary.proofs.central_rate.Statement.{statement}

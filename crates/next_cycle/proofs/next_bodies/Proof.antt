@@ -1,5 +1,5 @@
 -- `next_cycle::next_bodies` meets its contract.
-use mathlib.Core.Path.{_≡_, sym, ap₂, _∙_}
+use mathlib.Core.Path.{sym, ap₂, _∙_}
 use mathlib.Core.List.{[]}
 use Prim.Native.Nat.{ℕ}
 use lib.Ieee.{Float}

@@ -1,5 +1,5 @@
 -- `no_event::no_event` meets its contract.
-use mathlib.Core.Path.{_≡_, refl}
+use mathlib.Core.Path.{refl}
 use lib.Ieee.{ofBits}
 use Rattle.no_event.proofs.no_event.Statement.{statement}
 use Rattle.no_event.proofs.no_event.Tie as tie

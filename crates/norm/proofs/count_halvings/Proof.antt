@@ -1,8 +1,8 @@
 -- `norm::count_halvings` meets its contract. The invariant: what is left to count gives the whole answer.
-use mathlib.Core.Path.{_≡_, refl, _∙_, sym, ap}
+use mathlib.Core.Path.{_≡_, _∙_, sym}
 use borrow.Author.Needs.{needs}
 use native.Mathlib.Omega.{arith}
-use Prim.Native.Nat.{ℕ, suc, _≤_, _-_, _+_}
+use Prim.Native.Nat.{suc, _≤_, _-_, _+_}
 use native.Mathlib.Nat.{sub-zero}
 use native.Mathlib.Numerals.{add-one}
 use borrow.Author.Tests.{not-true, not-false}

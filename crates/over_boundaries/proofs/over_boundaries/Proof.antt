@@ -2,12 +2,12 @@
 use mathlib.Core.Path.{_≡_, refl, _∙_}
 use borrow.Author.Needs.{needs}
 use native.Mathlib.Omega.{arith}
-use Prim.Native.Nat.{ℕ, _≤_, _<_, _-_, suc, _+_}
+use Prim.Native.Nat.{_≤_, _-_}
 use lib.ListN.{length, take}
 use lib.Ieee.{ofBits}
 use Rattle.events.specs.Packed.{packed}
 use Rattle.rows.specs.Written.{cells}
-use Rattle.rows.specs.Told.{Ran, Fits, kernelAdvance}
+use Rattle.rows.specs.Told.{kernelAdvance}
 use Rattle.rows.proofs.Parts.{ran-nothing, ran-fresh, ran-same, fits-fresh}
 use Rattle.events.proofs.Packing.{packed-length}
 use Rattle.over_boundaries.proofs.Boundaries.{Going, going-start, end-room, end-ran, here-room, here-stopped, code-room, code-stopped, code-going, marks-none}

@@ -1,5 +1,4 @@
 -- `parameters::absorbed` meets its contract.
-use mathlib.Core.Path.{_≡_, refl}
 use borrow.Author.Needs.{needs}
 use lib.Ieee.{ofBits}
 use Rattle.parameters.proofs.absorbed.Statement.{statement}

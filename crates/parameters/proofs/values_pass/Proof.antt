@@ -1,5 +1,4 @@
 -- `parameters::values_pass` meets its contract.
-use mathlib.Core.Path.{_≡_, refl}
 use borrow.Author.Needs.{needs}
 use Rattle.parameters.specs.Parameters.{valuesPass}
 use Rattle.parameters.proofs.values_pass.Statement.{statement}

@@ -1,5 +1,5 @@
 -- `preparation::prepare_simulation` meets its contract.
-use mathlib.Core.Path.{_≡_, refl, sym}
+use mathlib.Core.Path.{sym}
 use borrow.Author.Needs.{needs}
 use borrow.Author.Tests.{lt-leb, le-leb}
 use Rattle.preparation.specs.Preparation.{prepareEntry}

@@ -1,7 +1,6 @@
 -- `printout_reply::reply_of` meets its contract.
 use mathlib.Core.Path.{refl}
 use borrow.Author.Tests.{eq-eqb, ne-eqb}
-use borrow.Author.Needs.{needs}
 use Rattle.printout_reply.proofs.reply_of.Statement.{statement}
 use Rattle.printout_reply.proofs.reply_of.Tie as tie
 

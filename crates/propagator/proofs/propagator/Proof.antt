@@ -1,5 +1,4 @@
 -- `propagator::propagator` meets its contract.
-use mathlib.Core.Path.{_≡_, refl}
 use borrow.Author.Needs.{needs}
 use Rattle.propagator.specs.Propagator.{propagator}
 use Rattle.propagator.proofs.propagator.Statement.{statement}

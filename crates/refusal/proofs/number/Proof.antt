@@ -1,6 +1,4 @@
-use mathlib.Core.Path.{_≡_, refl}
 use borrow.Author.Needs.{needs}
-use native.Mathlib.Omega.{arith}
 use Rattle.refusal.proofs.number.Statement.{statement}
 use Rattle.refusal.proofs.number.Tie as tie
 use Rattle.refusal.proofs.number.Reads as reads

@@ -1,6 +1,4 @@
-use mathlib.Core.Path.{_≡_, refl}
 use borrow.Author.Needs.{needs}
-use native.Mathlib.Omega.{arith}
 use Rattle.refusal.proofs.of_refusal.Statement.{statement}
 use Rattle.refusal.proofs.of_refusal.Tie as tie
 use Rattle.refusal.proofs.of_refusal.Reads as reads

@@ -2,7 +2,7 @@
 use mathlib.Core.Path.{sym, ap, _∙_}
 use borrow.Author.Needs.{needs}
 use native.Mathlib.Omega.{arith}
-use Rattle.refusal.specs.Numbers.{resultOf, refusalNumber}
+use Rattle.refusal.specs.Numbers.{resultOf}
 use Rattle.refusal.specs.declared.Reply.{Reply}
 use Rattle.preparation.proofs.Tests.{refusal-number}
 use Rattle.sheet.specs.Sheet.{wordsOf, Sheet}

@@ -1,9 +1,8 @@
 -- `rows::propagate` meets its contract.
-use mathlib.Core.Path.{_≡_, refl, sym}
+use mathlib.Core.Path.{sym}
 use borrow.Author.Needs.{needs}
 use native.Mathlib.Omega.{arith}
-use Prim.Native.Nat.{ℕ, _+_, _≤_, _*_}
-use lib.ListN.{length, take}
+use lib.ListN.{take}
 use lib.Seq.{length-take-le}
 use Rattle.rows.proofs.Kernel.{advance-refused, advance-done}
 use Rattle.rows.proofs.propagate.Statement.{statement}

@@ -1,8 +1,8 @@
 -- `rows::put_row` meets its contract.
-use mathlib.Core.Path.{_≡_, refl, sym, ap}
+use mathlib.Core.Path.{sym, ap}
 use borrow.Author.Needs.{needs}
 use native.Mathlib.Omega.{arith}
-use Prim.Native.Nat.{ℕ, _+_, _-_, _≤_, _*_}
+use Prim.Native.Nat.{_-_, _*_}
 use lib.ListN.{length, take, drop, length-drop}
 use lib.Seq.{length-take-le, take-all}
 use Rattle.rows.proofs.Puts.{put-one, put-lent}

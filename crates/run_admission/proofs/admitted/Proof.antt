@@ -1,5 +1,4 @@
 -- `run_admission::admitted` meets its contract.
-use mathlib.Core.Path.{_≡_, refl, sym}
 use borrow.Author.Needs.{needs}
 use native.Mathlib.Omega.{arith}
 use Prim.Native.Nat.{_+_, _*_}

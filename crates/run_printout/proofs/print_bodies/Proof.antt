@@ -6,7 +6,6 @@ use native.Mathlib.Nat.{mul-le-mul-right}
 use Prim.Native.Nat.{ℕ, _*_, _≤_}
 use mathlib.Core.Bool.{cond}
 use lib.Dec.{eqb}
-use lib.ListN.{length}
 use Rattle.linear_pk.specs.LinearPk.{stateCount}
 use Rattle.protocol.specs.Entry.{Reply}
 use Rattle.sheet.specs.Sheet.{wordsOf}

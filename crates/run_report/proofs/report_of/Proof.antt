@@ -1,5 +1,4 @@
 -- `run_report::report_of` meets its contract.
-use mathlib.Core.Path.{_≡_, refl}
 use borrow.Author.Needs.{needs}
 use lib.Ieee.{ofBits}
 use Rattle.run_report.proofs.report_of.Statement.{statement}

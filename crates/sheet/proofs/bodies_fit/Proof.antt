@@ -1,10 +1,10 @@
 -- `sheet::bodies_fit` meets its contract.
-use mathlib.Core.Path.{_≡_, sym, ap, ap₂, _∙_}
+use mathlib.Core.Path.{sym, ap, ap₂, _∙_}
 use mathlib.Core.Bool.{_&&_}
 use lib.Dec.{eqb}
 use Rattle.layout.specs.Layout.{eventsFit}
 use native.Mathlib.Omega.{arith}
-use Prim.Native.Nat.{ℕ, _≤_, _-_}
+use Prim.Native.Nat.{ℕ, _≤_}
 use lib.ListN.{length}
 use Rattle.sheet.specs.Sheet.{wordsOf, modelFits}
 use Rattle.sheet.proofs.Places.{words-length, body-at, body-length}

@@ -1,5 +1,5 @@
 -- `sheet::read_sheet` meets its contract.
-use mathlib.Core.Path.{_≡_, refl, sym, _∙_}
+use mathlib.Core.Path.{refl, sym, _∙_}
 use native.Mathlib.Omega.{arith}
 use borrow.Author.Tests.{not-true, not-false}
 use Rattle.sheet.proofs.Reading.{no-head, no-bodies, over-limits, reads, head-bytes, places-located, limits-at}

@@ -1,6 +1,5 @@
 -- `sheet_cells::known` meets its contract.
 use borrow.Author.Tests.{le-leb, lt-leb}
-use borrow.Author.Needs.{needs}
 use native.Mathlib.Omega.{arith}
 use Rattle.sheet_cells.proofs.known.Statement.{statement}
 use Rattle.sheet_cells.proofs.known.Tie as tie

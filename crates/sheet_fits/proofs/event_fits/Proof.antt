@@ -1,5 +1,5 @@
 -- `sheet_fits::event_fits` meets its contract.
-use mathlib.Core.Path.{_≡_, refl, _∙_}
+use mathlib.Core.Path.{_∙_}
 use native.Mathlib.Nat.{add-zero}
 use Rattle.layout.specs.Layout.{eventFits}
 use borrow.Author.Needs.{needs}

@@ -1,5 +1,4 @@
 -- `sheet_fits::model_fits` meets its contract.
-use mathlib.Core.Path.{_≡_, refl}
 use borrow.Author.Tests.{lt-leb, le-leb}
 use Prim.Native.Nat.{_/_}
 use lib.ListN.{length}

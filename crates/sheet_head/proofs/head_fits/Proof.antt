@@ -1,5 +1,5 @@
 -- `sheet_head::head_fits` meets its contract.
-use mathlib.Core.Path.{_≡_, refl, sym, ap}
+use mathlib.Core.Path.{_≡_, refl}
 use mathlib.Core.Bool.{Bool, true, false, _&&_}
 use mathlib.Core.List.{[], _∷_}
 use borrow.Author.Tests.{lt-leb, le-leb}

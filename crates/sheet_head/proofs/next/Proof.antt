@@ -1,8 +1,8 @@
 -- `sheet_head::next` meets its contract.
-use mathlib.Core.Path.{_≡_, refl, sym, ap, _∙_}
+use mathlib.Core.Path.{sym, ap, _∙_}
 use mathlib.Core.Bool.{Bool, _&&_}
 use native.Mathlib.Omega.{arith}
-use Prim.Native.Nat.{_+_, _-_, _/_}
+use Prim.Native.Nat.{_+_, _/_}
 use lib.Dec.{eqb}
 use lib.ListN.{length}
 use Rattle.sheet_head.specs.Places.{nextOf}

@@ -1,5 +1,4 @@
 -- `sheet_head::places_of` meets its contract.
-use mathlib.Core.Path.{_≡_, refl}
 use borrow.Author.Needs.{needs}
 use Rattle.sheet_head.proofs.places_of.Statement.{statement}
 use Rattle.sheet_head.proofs.places_of.Tie as tie

@@ -2,12 +2,11 @@
 use mathlib.Core.Path.{_≡_, refl, _∙_}
 use borrow.Author.Needs.{needs}
 use native.Mathlib.Omega.{arith}
-use native.Mathlib.Nat.{le-antisymm}
 use Prim.Native.Nat.{_+_, _≤_, _-_}
 use lib.ListN.{length, length-set}
 use lib.Ieee.{nan}
 use Rattle.matrix.specs.Arrays.{updated, updatedFrom}
-use Rattle.matrix.proofs.Updated.{updated-more, updated-length, updated-all}
+use Rattle.matrix.proofs.Updated.{updated-more, updated-all}
 use Rattle.sheet_words.specs.Words.{wordsOf}
 use Rattle.sheet_values.specs.Values.{doubleOf}
 use Rattle.sheet_values.proofs.Fill.{whole}

@@ -1,5 +1,4 @@
 -- `sheet_words::half` meets its contract.
-use mathlib.Core.Path.{sym}
 use native.Mathlib.Omega.{arith}
 use Rattle.sheet_words.proofs.Bytes.{four}
 use borrow.Author.Needs.{needs}

@@ -1,5 +1,4 @@
 -- `sheet_words::word` meets its contract.
-use native.Mathlib.Omega.{arith}
 use Prim.Native.Nat.{_*_}
 use Rattle.sheet_words.proofs.Bytes.{eight, word-at}
 use borrow.Author.Needs.{needs}

@@ -1,9 +1,6 @@
 -- `simulate_matrix::on_schedule` meets its contract.
-use mathlib.Core.Path.{_≡_, refl, sym, subst}
+use mathlib.Core.Path.{sym}
 use borrow.Author.Needs.{needs}
-use native.Mathlib.Omega.{arith}
-use Prim.Native.Nat.{_≤_}
-use lib.ListN.{length}
 use lib.Seq.{length-take-le}
 use lib.Ieee.{ofBits}
 use Rattle.protocol.specs.Schedule.{schedule}

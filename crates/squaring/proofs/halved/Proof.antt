@@ -1,5 +1,5 @@
 -- `squaring::halved` meets its contract. The invariant: k halvings are done.
-use mathlib.Core.Path.{_≡_, refl}
+use mathlib.Core.Path.{refl}
 use borrow.Author.Needs.{needs}
 use native.Mathlib.Omega.{arith}
 use native.Mathlib.Nat.{le-antisymm}

@@ -2,8 +2,7 @@
 use mathlib.Core.Path.{_≡_, refl}
 use borrow.Author.Needs.{needs}
 use native.Mathlib.Omega.{arith}
-use Prim.Native.Nat.{ℕ, _≤_, _-_, _+_, _%_}
-use native.Mathlib.Nat.{le-antisymm}
+use Prim.Native.Nat.{_≤_, _-_, _+_, _%_}
 use mathlib.Core.Logic.{⊎-elim}
 use lib.ListN.{length}
 use Rattle.matrix.specs.Arrays.{Holds, lead, block}

@@ -1,8 +1,8 @@
 -- `steady_printout::put_states` meets its contract. The invariant: the lines of the first k states are written.
 use native.Mathlib.Omega.{arith}
 use native.Mathlib.Nat.{le-antisymm}
-use Prim.Native.Nat.{_-_, _≤_, _<_}
-use lib.ListN.{length, take}
+use Prim.Native.Nat.{_-_, _≤_}
+use lib.ListN.{take}
 use Rattle.printout.specs.Cells.{Wrote}
 use Rattle.printout.proofs.Writing.{wrote-both, wrote-none}
 use Rattle.steady_printout.specs.SteadyPrintout.{stateLines}

@@ -1,5 +1,4 @@
 -- `steady_words::report_of` meets its contract.
-use mathlib.Core.Path.{_≡_, refl}
 use borrow.Author.Needs.{needs}
 use lib.Ieee.{ofBits}
 use Rattle.steady_words.proofs.report_of.Statement.{statement}

@@ -1,5 +1,5 @@
 -- `stored_numbers::number` meets its contract. The invariant: what the bytes from i on make of the value is what the word spells.
-use mathlib.Core.Path.{_≡_, refl, sym, _∙_}
+use mathlib.Core.Path.{_≡_, sym, _∙_}
 use mathlib.Core.Bool.{cond, _&&_}
 use mathlib.Core.List.{List}
 use Prim.Native.Nat.{ℕ, _≤_, _<_, _+_, _*_, _-_}

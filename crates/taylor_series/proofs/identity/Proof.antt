@@ -4,7 +4,7 @@ use borrow.Author.Needs.{needs}
 use native.Mathlib.Omega.{arith}
 use Prim.Native.Nat.{_≤_, _-_}
 use mathlib.Core.List.{[]}
-use lib.ListN.{set, replicate}
+use lib.ListN.{set}
 use lib.Ieee.{ofBits}
 use Rattle.binary64.specs.Doubles.{one}
 use Rattle.matrix.specs.Arrays.{updated, updatedFrom}

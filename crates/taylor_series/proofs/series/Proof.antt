@@ -1,5 +1,4 @@
 -- `taylor_series::series` meets its contract. The invariant: k terms are summed.
-use mathlib.Core.Path.{_≡_, refl}
 use borrow.Author.Needs.{needs}
 use native.Mathlib.Omega.{arith}
 use native.Mathlib.Nat.{le-antisymm}

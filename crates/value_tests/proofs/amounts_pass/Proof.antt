@@ -1,5 +1,4 @@
 -- `value_tests::amounts_pass` meets its contract.
-use mathlib.Core.Path.{_≡_, refl}
 use borrow.Author.Needs.{needs}
 use Rattle.value_tests.proofs.amounts_pass.Statement.{statement}
 use Rattle.value_tests.proofs.amounts_pass.Tie as tie

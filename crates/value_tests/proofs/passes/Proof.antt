@@ -1,5 +1,4 @@
 -- `value_tests::passes` meets its contract.
-use mathlib.Core.Path.{_≡_, refl}
 use borrow.Author.Needs.{needs}
 use Rattle.value_tests.proofs.passes.Statement.{statement}
 use Rattle.value_tests.proofs.passes.Tie as tie

@@ -1,5 +1,4 @@
 -- `window_validation::window_passes` meets its contract.
-use mathlib.Core.Path.{_≡_, refl}
 use borrow.Author.Needs.{needs}
 use Rattle.window_validation.proofs.window_passes.Statement.{statement}
 use Rattle.window_validation.proofs.window_passes.Tie as tie

@@ -1,5 +1,4 @@
 -- `zeros::clear_sides` meets its contract. The invariant: the first i cells are cleared.
-use mathlib.Core.Path.{_≡_, refl}
 use borrow.Author.Needs.{needs}
 use native.Mathlib.Omega.{arith}
 use Prim.Native.Nat.{_-_}

@@ -1,5 +1,4 @@
 -- `capi::run::linear_pk_simulate` meets its contract.
-use mathlib.Core.Path.{_≡_, refl}
 use borrow.Author.Needs.{needs}
 use Rattle.capi.proofs.run.linear_pk_simulate.Statement.{statement}
 use Rattle.capi.proofs.run.linear_pk_simulate.Tie as tie

@@ -1,5 +1,5 @@
 -- `linear_pk::bind::not_bound` meets its contract.
-use mathlib.Core.Path.{_≡_, refl}
+use mathlib.Core.Path.{refl}
 use borrow.Author.Needs.{needs}
 use lib.Ieee.{ofBits}
 use Rattle.linear_pk.proofs.bind.not_bound.Statement.{statement}

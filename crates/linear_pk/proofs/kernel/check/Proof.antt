@@ -1,5 +1,5 @@
 -- `linear_pk::kernel::check` meets its contract.
-use mathlib.Core.Path.{_≡_, refl, sym, _∙_}
+use mathlib.Core.Path.{sym, _∙_}
 use borrow.Author.Tests.{not-true, not-false}
 use Rattle.linear_pk.proofs.Counted.{no-states, some-states}
 use borrow.Author.Needs.{needs}

@@ -1,5 +1,4 @@
 -- `linear_pk::kernel::kernel_of` meets its contract.
-use mathlib.Core.Path.{_≡_, refl}
 use borrow.Author.Needs.{needs}
 use Rattle.linear_pk.specs.LinearPk.{kernelOf}
 use Rattle.linear_pk.proofs.kernel.kernel_of.Statement.{statement}

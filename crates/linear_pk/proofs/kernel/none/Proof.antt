@@ -1,5 +1,5 @@
 -- `linear_pk::kernel::none` meets its contract.
-use mathlib.Core.Path.{_≡_, refl}
+use mathlib.Core.Path.{refl}
 use lib.Ieee.{ofBits}
 use Rattle.linear_pk.proofs.kernel.none.Statement.{statement}
 use Rattle.linear_pk.proofs.kernel.none.Tie as tie

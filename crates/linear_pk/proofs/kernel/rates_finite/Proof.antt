@@ -1,5 +1,4 @@
 -- `linear_pk::kernel::rates_finite` meets its contract.
-use mathlib.Core.Path.{_≡_, refl}
 use borrow.Author.Needs.{needs}
 use Rattle.linear_pk.specs.LinearPk.{ratesFinite}
 use Rattle.linear_pk.proofs.kernel.rates_finite.Statement.{statement}

@@ -1,5 +1,5 @@
 -- `linear_pk::kernel::LinearPk::advance` meets its contract.
-use mathlib.Core.Path.{_≡_, refl, sym, _∙_}
+use mathlib.Core.Path.{refl, sym, _∙_}
 use borrow.Author.Needs.{needs}
 use mathlib.Core.Bool.{_&&_}
 use lib.ListN.{length}

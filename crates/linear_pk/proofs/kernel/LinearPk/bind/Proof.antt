@@ -1,5 +1,5 @@
 -- `linear_pk::kernel::LinearPk::bind` meets its contract.
-use mathlib.Core.Path.{_≡_, refl, sym}
+use mathlib.Core.Path.{refl, sym}
 use borrow.Author.Needs.{needs}
 use borrow.Author.Tests.{not-true, not-false}
 use Rattle.linear_pk.proofs.Cases.{bind-unsound, bind-sound}

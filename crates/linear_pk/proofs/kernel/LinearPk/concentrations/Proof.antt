@@ -1,5 +1,5 @@
 -- `linear_pk::kernel::LinearPk::concentrations` meets its contract.
-use mathlib.Core.Path.{_≡_, refl, sym, _∙_}
+use mathlib.Core.Path.{refl, sym, _∙_}
 use borrow.Author.Needs.{needs}
 use Rattle.linear_pk.proofs.Counted.{few-volumes, states-are, sound-counted}
 use Rattle.linear_pk.proofs.Cases.{concentrations-unsound, concentrations-sound}

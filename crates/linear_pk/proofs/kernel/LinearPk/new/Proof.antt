@@ -1,5 +1,5 @@
 -- `linear_pk::kernel::LinearPk::new` meets its contract.
-use mathlib.Core.Path.{_≡_, refl, _∙_}
+use mathlib.Core.Path.{refl, _∙_}
 use borrow.Author.Needs.{needs}
 use mathlib.Core.Bool.{false}
 use borrow.Author.Tests.{not-true, not-false, eq-eqb, ne-eqb}

@@ -1,5 +1,4 @@
 -- `linear_pk::kernel::LinearPk::state_count` meets its contract.
-use mathlib.Core.Path.{_≡_, refl}
 use borrow.Author.Needs.{needs}
 use native.Mathlib.Omega.{arith}
 use native.Mathlib.Nat.{add-zero}
