@@ -2,7 +2,7 @@
 use mathlib.Core.Path.{_≡_, refl}
 use mathlib.Core.Bool.{Bool, true, false, cond}
 use mathlib.Core.List.{List}
-use Prim.Native.Nat.{ℕ, _*_, _≤_, _<_}
+use Prim.Native.Nat.{ℕ, _≤_, _<_}
 use native.Mathlib.Omega.{arith}
 use lib.ListN.{length, take, length-append}
 use lib.Ieee.{Float}
@@ -27,9 +27,6 @@ module _ (tol : SteadyStateTolerance) where
     module _ {size : ℕ} (s : size ≡ linesLength n closed) (old : List ℕ) where
       pub too-long : length old < size → Printed (linesText (cycleOf tol n xs ys zs)) old 0 old
       too-long g = no-room (linesText (cycleOf tol n xs ys zs)) old (rw (text-length, ← s) g)
-
-      pub lines-fit : size ≤ length old → 68 * n ≤ length old
-      lines-fit g = omega arith
 
       pub cycle-printed : {r at : ℕ} {mid new : List ℕ} → size ≤ length old → Wrote (cycleLines tol (take n xs) (take n ys)) 0 old at mid → Wrote (verdictLine closed) at mid r new
           → Printed (linesText (cycleOf tol n xs ys zs)) old r new

@@ -265,9 +265,6 @@ module _ (n : ℕ) (advance : Propagator) (budget : ℕ) (laws : KernelLaws n ad
     meets-stops (dose {t = t} {e = v} h) = (withAmounts (applied v (s .amounts)) s, fails-back (all nonnegative (applied v (s .amounts))) 31 t (withAmounts (applied v (s .amounts)) s) h)
     meets-stops (summed-rates {r = r} h) = (s, fails-back (all finite r) 32 plusZero s h)
 
-    pub step-iff : (x : Step) → Ready n w x → (c : ℕ) (t : Float) → ((z : State) × (execute advance budget s x ≡ stop c t z)) ↔ Meets advance budget c t x s
-    step-iff x g c t = (λ h. step-meets x g c t (h .0) (h .1), meets-stops)
-
   -- ---- P of each step that a run from s comes to
   module _ (P : Step → Type 0) where
     abbrev Along : State → List Step → Type 0
