@@ -19,7 +19,7 @@ use Rattle.protocol.specs.declared.Event.{Event}
 use Rattle.protocol.specs.declared.Window.{Window}
 use Rattle.matrix.specs.Matrix.{tabulate, tabulateFrom}
 use Rattle.preparation.specs.Preparation.{validateOf, numberOf}
-use Rattle.preparation.proofs.Tests.{refusal-number}
+use Rattle.refusal.proofs.Numbers.{refusal-number}
 use Rattle.events.specs.Packed.{eventAt, packed}
 use Rattle.events.proofs.Packing.{packed-length}
 use Rattle.events.proofs.Scans.{left, left-start, left-more, left-none}

@@ -16,9 +16,6 @@ use Rattle.protocol.specs.declared.Window.{Window}
 use Rattle.protocol.specs.declared.Event.{Event}
 use Rattle.protocol.specs.Entry.{mostEvents, mostSamples}
 use Rattle.refusal.specs.Result.{done}
-use Rattle.refusal.specs.Numbers.{refusalNumber}
-use Rattle.refusal.specs.declared.Refusal.{Refusal}
-use Rattle.refusal.specs.declared.Refusal.the-variants as R
 use Rattle.linear_pk.specs.LinearPk.{sound, stateCount}
 use Rattle.linear_pk.specs.declared.kernel.LinearPk.{LinearPk}
 use Rattle.preparation.specs.Preparation.{validateOf, prepareEntry, numberOf}
@@ -51,34 +48,6 @@ unfolding prepareEntry
 entry-at k w ss es count p q h = rw (p, q, h) (first-one (prepare (stateCount k) w ss (take count es)))
 
 -- ---- 0 stands for none
-pub refusal-number : (r : Refusal) → 1 ≤ refusalNumber r
-refusal-number r = by-cases r
-  where
-    by-cases : (r : Refusal) → 1 ≤ refusalNumber r
-    by-cases R.Parameters = omega arith
-    by-cases R.RateNotFinite = omega arith
-    by-cases R.Argument = omega arith
-    by-cases R.ShortSlice = omega arith
-    by-cases R.Limit = omega arith
-    by-cases R.Window = omega arith
-    by-cases R.Sample = omega arith
-    by-cases R.Event = omega arith
-    by-cases R.EventBudget = omega arith
-    by-cases R.OutputBudget = omega arith
-    by-cases R.NormNotFinite = omega arith
-    by-cases R.TooManyHalvings = omega arith
-    by-cases R.AmountNotFinite = omega arith
-    by-cases R.ConcentrationNotFinite = omega arith
-    by-cases R.Period = omega arith
-    by-cases R.CycleEvent = omega arith
-    by-cases R.CycleInfusion = omega arith
-    by-cases R.Overlap = omega arith
-    by-cases R.Tolerance = omega arith
-    by-cases R.Pivot = omega arith
-    by-cases R.Candidate = omega arith
-    by-cases R.Scale = omega arith
-    by-cases R.Residual = omega arith
-
 -- a number above 0 is that of the first test that fails
 pub first-refused : (o : Option ℕ) (os : List (Option ℕ)) {c : ℕ} → 1 ≤ c → c ≡ numberOf o → c ≡ numberOf (firstOf (o ∷ os))
 first-refused none os h e = absurd (no h e)

@@ -26,10 +26,14 @@ refusalNumber R.NormNotFinite = 20
 refusalNumber R.TooManyHalvings = 21
 refusalNumber R.AmountNotFinite = 22
 refusalNumber R.ConcentrationNotFinite = 23
+refusalNumber R.PropagationBudget = 30
+refusalNumber R.State = 31
+refusalNumber R.SummedRates = 32
 refusalNumber R.Pivot = 33
 refusalNumber R.Candidate = 34
 refusalNumber R.Scale = 35
 refusalNumber R.Residual = 36
+refusalNumber R.Layout = 40
 
 -- 0 stands for done
 abbrev pub replyNumber : Reply → ℕ

@@ -35,6 +35,12 @@ pub enum Refusal {
     TooManyHalvings,
     AmountNotFinite,
     ConcentrationNotFinite,
+    // More advances than the budget.
+    PropagationBudget,
+    // An amount at a boundary that is not finite or below 0.
+    State,
+    // A summed rate that is not finite.
+    SummedRates,
     // A pivot that is not finite or too small.
     Pivot,
     // A solution that is not finite or below 0.
@@ -43,6 +49,8 @@ pub enum Refusal {
     Scale,
     // A scaled residual is not finite or above 1.
     Residual,
+    // Words outside the layout of a sheet or of its events.
+    Layout,
 }
 
 pub enum Reply {
@@ -74,10 +82,14 @@ fn of_refusal(refusal: Refusal) -> u64
         Refusal::TooManyHalvings => 21,
         Refusal::AmountNotFinite => 22,
         Refusal::ConcentrationNotFinite => 23,
+        Refusal::PropagationBudget => 30,
+        Refusal::State => 31,
+        Refusal::SummedRates => 32,
         Refusal::Pivot => 33,
         Refusal::Candidate => 34,
         Refusal::Scale => 35,
         Refusal::Residual => 36,
+        Refusal::Layout => 40,
     }
 }
 

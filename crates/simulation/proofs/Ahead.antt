@@ -38,7 +38,8 @@ use Rattle.preparation.specs.Preparation.{ownNumber, numberOf}
 use Rattle.run_report.specs.Replies.{runReply}
 use Rattle.simulation.specs.Entries.{simulateEntry}
 use Rattle.run_report.specs.declared.RunReply.the-variants.{Refused}
-use Rattle.preparation.proofs.Tests.{prepare-passes, refusal-number}
+use Rattle.refusal.proofs.Numbers.{refusal-number}
+use Rattle.preparation.proofs.Tests.{prepare-passes}
 
 -- ---- a refusal: its number, and slices as they were
 pub refuses : (r : Refusal) {o : R.Result Outcome} (rows n : ℕ) (times : List Float) (sides : List ℕ) (values : List Float) → o ≡ R.refused (refusalNumber r)

@@ -4,7 +4,7 @@ use borrow.Author.Needs.{needs}
 use borrow.Author.Tests.{not-true, not-false}
 use native.Mathlib.Omega.{arith}
 use Rattle.events.specs.Packed.{packed}
-use Rattle.preparation.proofs.Tests.{refusal-number}
+use Rattle.refusal.proofs.Numbers.{refusal-number}
 use Rattle.cycle_preparation.proofs.Ready.{tolerance-stops, fold-stops, prepare-stops, ready-got}
 use Rattle.cycle_preparation.proofs.prepare_periodic_steady_state.Statement.{statement}
 use Rattle.cycle_preparation.proofs.prepare_periodic_steady_state.Tie as tie

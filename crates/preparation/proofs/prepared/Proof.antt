@@ -4,7 +4,8 @@ use native.Mathlib.Omega.{arith}
 use Prim.Native.Nat.{_+_, _*_}
 use native.Mathlib.Nat.{mul-le-mul-left}
 use lib.ListN.{length}
-use Rattle.preparation.proofs.Tests.{budget-fails, validate-fails, rows-fail, prepares, refusal-number}
+use Rattle.refusal.proofs.Numbers.{refusal-number}
+use Rattle.preparation.proofs.Tests.{budget-fails, validate-fails, rows-fail, prepares}
 use Rattle.preparation.proofs.prepared.Statement.{statement}
 use Rattle.preparation.proofs.prepared.Tie as tie
 

@@ -11,7 +11,8 @@ use Rattle.protocol.specs.Entry.{roomFor}
 use Rattle.run_report.specs.Replies.{room}
 use Rattle.events.specs.Packed.{packed}
 use Rattle.events.proofs.Packing.{packed-length}
-use Rattle.preparation.proofs.Tests.{refusal-number, first-refused, prepare-passes}
+use Rattle.refusal.proofs.Numbers.{refusal-number}
+use Rattle.preparation.proofs.Tests.{first-refused, prepare-passes}
 use Rattle.run_admission.proofs.admitted.Statement.{statement}
 use Rattle.run_admission.proofs.admitted.Tie as tie
 
