@@ -20,7 +20,7 @@ use Rattle.prepared_run.specs.KernelRun.{propagatorOf}
 use Rattle.cycle.specs.Fold.{mostCycleEvents}
 use Rattle.cycle.specs.Elimination.{System, leastPivot, eliminateTo, solveTo, solve}
 use Rattle.cycle.specs.Closed.{Timed, stopped, got, lastPost, residualsOf, Solved, closed, SteadyReply, steadyReplyOf, answerAtExit}
-use Rattle.cycle.specs.ClosedCycle.{closedNumbers, Answers, ClosedCycle}
+use Rattle.cycle.specs.ClosedCycle.{TimesFit, closedNumbers, Answers, ClosedCycle}
 use Rattle.steady_reply.specs.Entry.{steadyEntry, steadyReply}
 use Rattle.steady_reply.specs.declared.SteadyReply as P
 use Rattle.demand_3.specs.PeriodicSteadyState.{Slices, Call, states, listed, entryOf, Contract, Passed, candidate, YieldsOn, AcceptsOn, AtAnswer, AtRefusal, Replied, EverySteadyState}
@@ -75,7 +75,7 @@ module _ (c : Call) (r : P.SteadyReply) (exit : Slices) (q : Contract c r exit) 
       on (stopped m t) e = let h = refusal m t e in record { number = refl; time = refl; greatest = h .greatest; slices = h .slices }
       on (got s) e = not-zero l (ap (λ (x : SteadyReply). x .number) (q .reply ∙ ap steadyReplyOf e))
 
-  module _ (p : Passed c) where
+  module _ (f : TimesFit (c .window) (listed c)) (p : Passed c) where
     abbrev whole : Timed Solved
     whole = closed (propagatorOf (c .kernel)) (states c) (c .window) (c .samples) (listed c) (c .tolerance) true
 
@@ -84,7 +84,7 @@ module _ (c : Call) (r : P.SteadyReply) (exit : Slices) (q : Contract c r exit) 
     begins = rw (le-leb (c .count) mostCycleEvents (p .count), le-leb (length (c .samples)) mostSamples (p .samples), p .kernel, le-leb (states c) (length (c .lent .amounts)) (p .amounts), le-leb (states c) (length (c .lent .residual)) (p .residual))
 
     cycle : ClosedCycle (propagatorOf (c .kernel)) (states c) (c .window) (c .samples) (listed c) (c .tolerance)
-    cycle = demand-3 .closed-cycle (c .kernel) (p .kernel) (c .window) (c .samples) (listed c) (c .tolerance) (p .times)
+    cycle = demand-3 .closed-cycle (c .kernel) (p .kernel) (c .window) (c .samples) (listed c) (c .tolerance) f
 
     -- 0 is the number of an answer
     at-zero : steadyReply r .number ≡ 0 → (s : Solved) × (whole ≡ got s)

@@ -55,14 +55,13 @@ pub record Contract (c : Call) (r : SteadyReply) (exit : Slices) : Type 0 where
   pub residual : exit .residual ≡ answerAtExit (λ s. s .residuals) (entryOf c) (c .lent .residual)
 
 -- ---- what is given
--- within the limits, a kernel that `new` can have made, a cell for each state in both slices, times that are doubles
+-- within the limits, a kernel that `new` can have made, a cell for each state in both slices
 pub record Passed (c : Call) : Type 0 where
   pub count : c .count ≤ mostCycleEvents
   pub samples : length (c .samples) ≤ mostSamples
   pub kernel : sound (c .kernel) ≡ done (c .kernel)
   pub amounts : states c ≤ length (c .lent .amounts)
   pub residual : states c ≤ length (c .lent .residual)
-  pub times : TimesFit (c .window) (listed c)
 
 -- ---- what is claimed
 abbrev pub candidate : Call → Timed (List Float)
@@ -104,6 +103,6 @@ pub record Replied (c : Call) (r : SteadyReply) (exit : Slices) : Type 0 where
   pub numbers : T (oneOf (steadyReply r .number) (0 ∷ closedNumbers))
 
 pub record EverySteadyState : Type 0 where
-  pub replied : (c : Call) (r : SteadyReply) (exit : Slices) → Contract c r exit → Passed c → Replied c r exit
+  pub replied : (c : Call) (r : SteadyReply) (exit : Slices) → Contract c r exit → TimesFit (c .window) (listed c) → Passed c → Replied c r exit
   -- at every number above 0 the slices are as they were
   pub unchanged : (c : Call) (r : SteadyReply) (exit : Slices) → Contract c r exit → 0 < steadyReply r .number → AtRefusal c r exit (steadyReply r .number) (steadyReply r .time)

@@ -1,4 +1,4 @@
-// Calls of the library's entries. That these meet `Contract` of demand_3's specs/Simulate.antt and specs/PeriodicSteadyState.antt shows that what is claimed there of every call that meets it holds of the code.
+// Demand 3 stated of the code: what a call of the library's entries ensures is the claim. That the times of a call are doubles is given by their type.
 use cycle::SteadyStateTolerance;
 use events::EVENTS;
 use linear_pk::LinearPk;
@@ -6,9 +6,12 @@ use protocol::Event;
 use protocol::Window;
 use run_report::RunReply;
 use steady_reply::SteadyReply;
-ghost use Rattle.demand_3.specs.Simulate as S;
-ghost use Rattle.demand_3.specs.PeriodicSteadyState as P;
+ghost use mathlib.Core.Path.{_≡_};
+ghost use Rattle.run_report.specs.Replies.{runReply};
+ghost use Rattle.demand_3.specs.Simulate.{SameRows};
+ghost use Rattle.demand_3_calls.specs.Claims.{Simulated, Steady, windowOf};
 
+// A run of `simulate`.
 fn simulate(
     kernel: LinearPk,
     amounts: &[f64],
@@ -20,7 +23,7 @@ fn simulate(
     sides: &mut [u8],
     values: &mut [f64],
 ) -> RunReply
-    ensures { λ r. ⌜ S.Contract
+    ensures { λ r. ⌜ Simulated
         (record {
           kernel = kernel;
           amounts = now (amounts .entry);
@@ -45,6 +48,101 @@ fn simulate(
     )
 }
 
+// The tolerances and the budgets of a window.
+struct Settings {
+    rtol: f64,
+    atol: f64,
+    propagations: u64,
+    events: usize,
+    outputs: usize,
+}
+
+fn window_of(start: f64, end: f64, settings: Settings) -> Window
+    ensures { λ r. ⌜ r ≡ windowOf start end settings ⌝ }
+{
+    Window {
+        start,
+        end,
+        rtol: settings.rtol,
+        atol: settings.atol,
+        propagations: settings.propagations,
+        events: settings.events,
+        outputs: settings.outputs,
+    }
+}
+
+struct Replies {
+    first: RunReply,
+    second: RunReply,
+}
+
+// Two runs that differ in samples, tolerances, budgets and slices alone, where both reply 0.
+fn simulate_twice(
+    kernel: LinearPk,
+    amounts: &[f64],
+    start: f64,
+    end: f64,
+    events: [Event; EVENTS],
+    count: usize,
+    settings: Settings,
+    samples: &[f64],
+    times: &mut [f64],
+    sides: &mut [u8],
+    values: &mut [f64],
+    other_settings: Settings,
+    other_samples: &[f64],
+    other_times: &mut [f64],
+    other_sides: &mut [u8],
+    other_values: &mut [f64],
+) -> Replies
+    ensures { λ r. ⌜ (runReply (r .first) .number ≡ 0 → runReply (r .second) .number ≡ 0 → SameRows
+        (record {
+          kernel = kernel;
+          amounts = now (amounts .entry);
+          window = windowOf start end settings;
+          events = events;
+          count = count;
+          samples = now (samples .entry);
+          lent = record { times = now (times .entry); sides = now (sides .entry); values = now (values .entry) };
+        })
+        (record {
+          kernel = kernel;
+          amounts = now (amounts .entry);
+          window = windowOf start end «other_settings»;
+          events = events;
+          count = count;
+          samples = now («other_samples» .entry);
+          lent = record { times = now («other_times» .entry); sides = now («other_sides» .entry); values = now («other_values» .entry) };
+        })
+        (record { times = now (times .exit); sides = now (sides .exit); values = now (values .exit) })
+        (record { times = now («other_times» .exit); sides = now («other_sides» .exit); values = now («other_values» .exit) })) ⌝ }
+{
+    let first = simulation::simulate(
+        kernel,
+        amounts,
+        window_of(start, end, settings),
+        events,
+        count,
+        samples,
+        times,
+        sides,
+        values,
+    );
+    let second = simulation::simulate(
+        kernel,
+        amounts,
+        window_of(start, end, other_settings),
+        events,
+        count,
+        other_samples,
+        other_times,
+        other_sides,
+        other_values,
+    );
+    Replies { first, second }
+}
+
+// A closed cycle of `periodic_steady_state`.
 fn periodic_steady_state(
     kernel: LinearPk,
     window: Window,
@@ -55,7 +153,7 @@ fn periodic_steady_state(
     amounts: &mut [f64],
     residual: &mut [f64],
 ) -> SteadyReply
-    ensures { λ r. ⌜ P.Contract
+    ensures { λ r. ⌜ Steady
         (record {
           kernel = kernel;
           window = window;
