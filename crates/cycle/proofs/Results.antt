@@ -2,10 +2,11 @@
 use mathlib.Core.Path.{_≡_, refl, sym, ap, subst}
 use Prim.Native.Nat.{ℕ}
 use native.Mathlib.Omega.{arith}
-use mathlib.Core.Bool.{Bool, true, false, _||_}
+use mathlib.Core.Bool.{Bool, true, false, not, _||_}
 use mathlib.Core.List.{List, [], _∷_}
 use lib.Dec.{T, eqb, eqb→eq}
 use lib.Ieee.{Float}
+use Rattle.binary64.specs.Doubles.{plusZero}
 use Rattle.binary64.specs.Lists.{all}
 use Rattle.refusal.specs.Result.{Result, refused, done, andThen, unless}
 use Rattle.protocol.specs.PlainRun.{oneOf}
@@ -75,6 +76,10 @@ pub test-passes : {A : Type 0} (b : Bool) (c : ℕ) (a : A) → T b → unlessFa
 test-passes true c a h = refl
 test-passes false c a h = absurd h
 
+pub test-fails : {A : Type 0} (b : Bool) (c : ℕ) (a : A) → T (not b) → unlessFails b c a ≡ stopped c plusZero
+test-fails true c a h = absurd h
+test-fails false c a h = refl
+
 -- a refusal's number out of one list is one of another's
 pub among : (c : ℕ) (ks cs : List ℕ) → T (all (λ (k : ℕ). oneOf k cs) ks) → T (oneOf c ks) → T (oneOf c cs)
 among c [] cs h p = absurd p
@@ -93,6 +98,9 @@ no-answer q = let z : _≡_ {A = ℕ} 0 1 = cc in omega arith
 
 pub same-answer : {A : Type 0} {a b : A} → got a ≡ got b → a ≡ b
 same-answer q = cc
+
+pub same-refusal : {A : Type 0} {c d : ℕ} {t u : Float} → _≡_ {A = Timed A} (stopped c t) (stopped d u) → (c ≡ d) × (t ≡ u)
+same-refusal q = (cc, cc)
 
 -- what is handed on came from a first value that was
 pub then-got : {A B : Type 0} (r : Timed A) (f : A → Timed B) (b : B) → then r f ≡ got b → (a : A) × (r ≡ got a) × (f a ≡ got b)

@@ -1,8 +1,9 @@
 -- Demand 3's claim about a closed cycle: `closed-cycle`. Assumes nothing.
-use mathlib.Core.Path.{_≡_, refl, sym, ap, _∙_, subst}
+use mathlib.Core.Path.{_≡_, refl, sym, ap, ap₂, _∙_, subst}
 use Prim.Native.Nat.{ℕ, zero, suc, _-_}
-use mathlib.Core.Bool.{true}
+use mathlib.Core.Bool.{Bool, true, false, not}
 use mathlib.Core.List.{List, [], _∷_}
+use mathlib.Core.Logic.{_↔_}
 use borrow.Author.Tests.{eq-eqb}
 use lib.Dec.{T}
 use lib.ListN.{length, set, replicate, length-set, length-replicate}
@@ -14,18 +15,18 @@ use Rattle.matrix.specs.Matrix.{at}
 use Rattle.protocol.specs.declared.Event.{Event}
 use Rattle.protocol.specs.declared.Window.{Window}
 use Rattle.protocol.specs.Execute.{Propagator, State, Outcome, go, stop, runOf}
-use Rattle.protocol.specs.PlainRun.{KernelLaws, Prepared, Cycle, Reached}
+use Rattle.protocol.specs.PlainRun.{Conditions, KernelLaws, Prepared, Cycle, Reached}
 use Rattle.protocol.proofs.ListLaws.{both, and-T}
 use Rattle.protocol.proofs.Conditions.{stop-numbers}
 use Rattle.protocol.proofs.Theorems.{plain-run}
 use Rattle.cycle.specs.declared.SteadyStateTolerance.{SteadyStateTolerance}
 use Rattle.cycle.specs.Elimination.{System, systemOf, leastPivot, pivotOf, pivotPasses, exchanged, reduced, eliminateColumn, eliminateTo, solveTo, solve}
 use Rattle.cycle.specs.Closed.{Timed, stopped, got, then, tolerancePasses, divided, ready, homogeneous, lastPost, endOf, unit, lastOf, columnsTo, solution, candidateOf, greatestTo, residualsOf, Solved, accepted, closed}
-use Rattle.cycle.specs.ClosedCycle.{TimesFit, closedNumbers, Yields, Accepts, largestTo, Answers, EveryClosedCycle}
-use Rattle.cycle.proofs.Results.{Gives, gives-then, gives-last, Hands, hands-then, hands-test, hands-map, hands-self, hands-got, hands-number, same-answer, hands-untimed, among, test-passes}
+use Rattle.cycle.specs.ClosedCycle.{TimesFit, closedNumbers, Yields, Accepts, Rejects, candidate-fails, run-stops, state-fails, largestTo, Answers, EveryClosedCycle}
+use Rattle.cycle.proofs.Results.{Gives, gives-then, gives-last, Hands, hands-then, hands-test, hands-map, hands-self, hands-got, hands-number, no-answer, same-answer, same-refusal, hands-untimed, among, test-passes, test-fails}
 use Rattle.cycle.proofs.InnerRuns.{Ready, ready-hands, Inner, ready-inner, run-leaves}
 use Rattle.cycle.proofs.Candidates.{solution-yields, yields-solution, candidate-yields, yields-candidate}
-use Rattle.cycle.proofs.Residuals.{Greatest, greatest-hands, small-greatest}
+use Rattle.cycle.proofs.Residuals.{Greatest, greatest-hands, small-greatest, fails-greatest, greatest-fails}
 
 -- ---- the amounts that runs start from
 set-nonnegative : (xs : List Float) (i : ℕ) (x : Float) → T (all nonnegative xs) → T (nonnegative x) → T (all nonnegative (set xs i x))
@@ -79,7 +80,7 @@ record Ends (advance : Propagator) (n : ℕ) (w : Window) (fs : List Event) (a e
   ran : runOf advance n (divided n w) [] fs a ≡ go left
   last : lastPost [] (left .rows) ≡ e
 
-module _ (n : ℕ) (advance : Propagator) (laws : KernelLaws n advance) (w : Window) where
+module _ (n : ℕ) (advance : Propagator) {Refuses : Conditions} (laws : KernelLaws n advance Refuses) (w : Window) where
   run-hands : (fs : List Event) → Prepared n (divided n w) [] fs → Cycle (divided n w) → (a : List Float) → T (amountsPass n a) → Hands closedNumbers (Ends advance n w fs a) (lastOf advance n w fs a)
   unfolding lastOf
   run-hands fs p k a h = on (runOf advance n (divided n w) [] fs a) refl
@@ -137,8 +138,49 @@ module _ (advance : Propagator) (n : ℕ) (w : Window) (tol : SteadyStateToleran
       ∙ ap (λ (o : Outcome). then (endOf o) (λ e. then (greatestTo tol c e n) (λ m. got (answerOf n c e m)))) (h .reaches)
       ∙ ap (λ (r : Timed Float). then r (λ m. got (answerOf n c end m))) (small-greatest tol c end n ok (λ i l. record { scale = h .scales i l; residual = h .residuals i l }))
 
+-- ---- and else the first test that fails refuses
+module _ (advance : Propagator) (n : ℕ) (w : Window) (tol : SteadyStateTolerance) (fs : List Event) (c : List Float) (ok : T (tolerancePasses tol)) where
+  -- behind the candidate's run, and behind the test of the candidate
+  abbrev judging : Outcome → Timed Solved
+  judging o = then (endOf o) (λ e. then (greatestTo tol c e n) (λ m. got (answerOf n c e m)))
+
+  running : T (all nonnegative c) → accepted advance n w tol fs c ≡ judging (runOf advance n (divided n w) [] fs c)
+  unfolding accepted lastOf
+  running h = ap (λ (r : Timed (List Float)). then r (λ a. then (lastOf advance n w fs a) (λ e. then (greatestTo tol a e n) (λ m. got (answerOf n a e m))))) (test-passes (all nonnegative c) 34 c h)
+
+  failing : T (not (all nonnegative c)) → accepted advance n w tol fs c ≡ stopped 34 plusZero
+  unfolding accepted
+  failing h = ap (λ (r : Timed (List Float)). then r (λ a. then (lastOf advance n w fs a) (λ e. then (greatestTo tol a e n) (λ m. got (answerOf n a e m))))) (test-fails (all nonnegative c) 34 c h)
+
+  accepted-rejects : (m : ℕ) (t : Float) → accepted advance n w tol fs c ≡ stopped m t → Rejects advance n w tol fs c m t
+  accepted-rejects m t q = on (all nonnegative c) (λ b. b) (λ b. b)
+    where
+      is : {k : ℕ} {u : Float} → _≡_ {A = Timed Solved} (stopped k u) (stopped m t) → Rejects advance n w tol fs c k u → Rejects advance n w tol fs c m t
+      is {u = u} p h = let e = same-refusal p in subst (Rejects advance n w tol fs c m) (e .1) (subst (λ (k : ℕ). Rejects advance n w tol fs c k u) (e .0) h)
+
+      greatest : (e : List Float) (r : Timed Float) → then r (λ m. got (answerOf n c e m)) ≡ stopped m t → r ≡ stopped m t
+      greatest e (stopped k u) p = let e = same-refusal p in ap₂ stopped (e .0) (e .1)
+      greatest e (got g) p = absurd (no-answer (sym p))
+
+      ran : T (all nonnegative c) → (o : Outcome) → runOf advance n (divided n w) [] fs c ≡ o → judging o ≡ stopped m t → Rejects advance n w tol fs c m t
+      ran h (stop k u z) e p = is p (run-stops h e)
+      ran h (go z) e p =
+          let f = greatest-fails tol c (lastPost [] (z .rows)) n m t ok (greatest (lastPost [] (z .rows)) (greatestTo tol c (lastPost [] (z .rows)) n) p) in
+          subst (Rejects advance n w tol fs c m) (sym (f .1)) (state-fails h e (f .0))
+
+      on : (b : Bool) → (T b → T (all nonnegative c)) → (T (not b) → T (not (all nonnegative c))) → Rejects advance n w tol fs c m t
+      on true f g = ran (f tt) (runOf advance n (divided n w) [] fs c) refl (sym (running (f tt)) ∙ q)
+      on false f g = is (sym (failing (g tt)) ∙ q) (candidate-fails (g tt))
+
+  rejects-accepted : {m : ℕ} {t : Float} → Rejects advance n w tol fs c m t → accepted advance n w tol fs c ≡ stopped m t
+  rejects-accepted (candidate-fails h) = failing h
+  rejects-accepted (run-stops h e) = running h ∙ ap judging e
+  rejects-accepted (state-fails {m = m} {z = z} h e f) =
+      let end = lastPost [] (z .rows) in
+      running h ∙ ap judging e ∙ ap (λ (r : Timed Float). then r (λ g. got (answerOf n c end g))) (fails-greatest tol c end n m ok f)
+
 -- ---- the whole
-module _ (n : ℕ) (advance : Propagator) (laws : KernelLaws n advance) (w : Window) (ss : List Float) (es : List Event) (tol : SteadyStateTolerance) (fit : TimesFit w es) where
+module _ (n : ℕ) (advance : Propagator) {Refuses : Conditions} (laws : KernelLaws n advance Refuses) (w : Window) (ss : List Float) (es : List Event) (tol : SteadyStateTolerance) (fit : TimesFit w es) where
   abbrev whole : Timed Solved
   whole = closed advance n w ss es tol true
 
@@ -181,12 +223,18 @@ module _ (n : ℕ) (advance : Propagator) (laws : KernelLaws n advance) (w : Win
     fro : (a : Accepts advance n w tol (y .folded) c) → whole ≡ got (answerOf n c (lastPost [] (a .left .rows)) (largestTo tol c (lastPost [] (a .left .rows)) n))
     fro a = closed-is ∙ accepts-accepted advance n w tol (y .folded) c (at-hand .tolerance) a
 
+    rejected : (m : ℕ) (t : Float) → (whole ≡ stopped m t) ↔ Rejects advance n w tol (y .folded) c m t
+    rejected m t = (
+      (λ q. accepted-rejects advance n w tol (y .folded) c (at-hand .tolerance) m t (sym closed-is ∙ q)),
+      λ h. closed-is ∙ rejects-accepted advance n w tol (y .folded) c (at-hand .tolerance) h,
+    )
+
     answers : (a : Accepts advance n w tol (y .folded) c) (s : Solved) → whole ≡ got s → Answers n tol c (lastPost [] (a .left .rows)) s
     answers a s q = let e = same-answer (sym q ∙ fro a) in record { amounts = ap (λ (x : Solved). x .amounts) e; residuals = ap (λ (x : Solved). x .residuals) e; greatest = ap (λ (x : Solved). x .greatest) e }
 
     ends : (a : Accepts advance n w tol (y .folded) c) → Reached n (divided n w) [] (y .folded) (a .left) × (lastPost [] (a .left .rows) ≡ a .left .amounts)
     ends a = (
-      plain-run n advance laws (divided n w) [] (y .folded) (inner .prepared) c (amounts-pass n c sized (a .passes)) .reached (a .left) (a .reaches),
+      plain-run n advance Refuses laws (divided n w) [] (y .folded) (inner .prepared) c (amounts-pass n c sized (a .passes)) .reached (a .left) (a .reaches),
       run-leaves advance n (divided n w) [] (y .folded) c (a .left) (inner .prepared) (a .reaches),
     )
 
@@ -199,10 +247,11 @@ module _ (n : ℕ) (advance : Propagator) (laws : KernelLaws n advance) (w : Win
       on (got fs) q = ap (λ (r : Timed (List Float)). then r (accepted advance n w tol fs)) q
 
 pub closed-cycle : EveryClosedCycle
-closed-cycle n advance laws w ss es tol fit = record {
+closed-cycle n advance Refuses laws w ss es tol fit = record {
   numbers = λ c t q. hands-number closedNumbers (Closes n advance laws w ss es tol fit) (closed advance n w ss es tol true) c t (closed-hands n advance laws w ss es tol fit) q;
   yields = λ c. (candidate-yields advance n w ss es tol c, yields-candidate advance n w ss es tol c);
   accepts = λ c y. (to n advance laws w ss es tol fit c y, λ a. (_, fro n advance laws w ss es tol fit c y a));
+  rejects = rejected n advance laws w ss es tol fit;
   answer = answers n advance laws w ss es tol fit;
   needs = λ s q. hands-got closedNumbers (Closes n advance laws w ss es tol fit) (closed advance n w ss es tol true) s (closed-hands n advance laws w ss es tol fit) q;
   refuses = refuses n advance laws w ss es tol fit;

@@ -1,7 +1,7 @@
 -- Demand 3's claim about a closed cycle whose lent slices have room, over every propagator with the laws of a kernel, every window, list, samples and tolerance. A claim, no proof.
 use mathlib.Core.Path.{_≡_}
 use Prim.Native.Nat.{ℕ, zero, suc, _<_}
-use mathlib.Core.Bool.{true}
+use mathlib.Core.Bool.{true, not}
 use mathlib.Core.List.{List, [], _∷_}
 use mathlib.Core.Logic.{_↔_}
 use lib.Dec.{T}
@@ -15,8 +15,8 @@ use Rattle.refusal.specs.Result.{done}
 use Rattle.protocol.specs.declared.Event.{Event}
 use Rattle.protocol.specs.declared.Window.{Window}
 use Rattle.protocol.specs.Events.{time}
-use Rattle.protocol.specs.Execute.{Propagator, State, go, runOf}
-use Rattle.protocol.specs.PlainRun.{oneOf, KernelLaws, Reached}
+use Rattle.protocol.specs.Execute.{Propagator, State, go, stop, runOf}
+use Rattle.protocol.specs.PlainRun.{oneOf, Conditions, KernelLaws, Reached}
 use Rattle.cycle.specs.declared.SteadyStateTolerance.{SteadyStateTolerance}
 use Rattle.cycle.specs.Elimination.{systemOf, solve}
 use Rattle.cycle.specs.Closed.{stopped, got, divided, ready, homogeneous, lastPost, unit, lastOf, candidateOf, scaleOf, scaledOf, residualsOf, Solved, closed}
@@ -58,6 +58,34 @@ pub record Accepts (advance : Propagator) (n : ℕ) (w : Window) (tol : SteadySt
   pub scales : (i : ℕ) → i < n → T (finite (scaleOf tol (cell c i) (cell (lastPost [] (left .rows)) i)))
   pub residuals : (i : ℕ) → i < n → T (le (scaledOf tol (cell c i) (cell (lastPost [] (left .rows)) i)) one)
 
+-- ---- which number a candidate gets that is not accepted
+-- a state passes: its scale is finite, its scaled residual at most 1
+pub record Small (tol : SteadyStateTolerance) (start end : Float) : Type 0 where
+  pub scale : T (finite (scaleOf tol start end))
+  pub residual : T (le (scaledOf tol start end) one)
+
+-- it fails, by 35 before 36
+pub data Fails (tol : SteadyStateTolerance) (start end : Float) : ℕ → Type 0 where
+  scale-fails : T (not (finite (scaleOf tol start end))) → Fails tol start end 35
+  residual-fails : T (finite (scaleOf tol start end)) → T (not (le (scaledOf tol start end) one)) → Fails tol start end 36
+
+-- the first of n states that fails does so by the number m, where the candidate is c and the last post row of its run e
+pub record FirstFails (tol : SteadyStateTolerance) (c e : List Float) (n m : ℕ) : Type 0 where
+  pub state : ℕ
+  pub below : state < n
+  pub ahead : (i : ℕ) → i < state → Small tol (cell c i) (cell e i)
+  pub fails : Fails tol (cell c state) (cell e state) m
+
+-- the candidate c of the folded list fs is refused with a number and a time
+pub data Rejects (advance : Propagator) (n : ℕ) (w : Window) (tol : SteadyStateTolerance) (fs : List Event) (c : List Float) : ℕ → Float → Type 0 where
+  -- 34 where it is not finite or below 0
+  candidate-fails : T (not (all nonnegative c)) → Rejects advance n w tol fs c 34 plusZero
+  -- else the number and the time of its own run
+  run-stops : {m : ℕ} {t : Float} {z : State} → T (all nonnegative c) → runOf advance n (divided n w) [] fs c ≡ stop m t z → Rejects advance n w tol fs c m t
+  -- else 35 or 36 of the first state that fails
+  state-fails : {m : ℕ} {z : State} → T (all nonnegative c) → runOf advance n (divided n w) [] fs c ≡ go z → FirstFails tol c (lastPost [] (z .rows)) n m → Rejects advance n w tol fs c m plusZero
+
+-- ---- the answer
 -- the greatest of the first k scaled residuals, from +0
 unfoldable pub largestTo : SteadyStateTolerance → List Float → List Float → ℕ → Float
 largestTo tol a e zero = plusZero
@@ -78,6 +106,8 @@ pub record ClosedCycle (advance : Propagator) (n : ℕ) (w : Window) (ss : List 
   -- and the answer is the candidate, with the residuals of its own run
   pub answer : (c : List Float) (y : Yields advance n w ss es tol c) (a : Accepts advance n w tol (y .folded) c) (s : Solved) → closed advance n w ss es tol true ≡ got s
       → Answers n tol c (lastPost [] (a .left .rows)) s
+  -- and else the refusal is that of the first test that fails
+  pub rejects : (c : List Float) (y : Yields advance n w ss es tol c) (m : ℕ) (t : Float) → (closed advance n w ss es tol true ≡ stopped m t) ↔ Rejects advance n w tol (y .folded) c m t
   -- no answer without a candidate; where there is none, the refusal ahead of it or 33 is the reply
   pub needs : (s : Solved) → closed advance n w ss es tol true ≡ got s → Yields advance n w ss es tol (s .amounts)
   pub refuses : (c : ℕ) (t : Float) → candidateOf advance n w ss es tol ≡ stopped c t → closed advance n w ss es tol true ≡ stopped c t
@@ -85,5 +115,5 @@ pub record ClosedCycle (advance : Propagator) (n : ℕ) (w : Window) (ss : List 
   pub ends : (c : List Float) (y : Yields advance n w ss es tol c) (a : Accepts advance n w tol (y .folded) c)
       → Reached n (divided n w) [] (y .folded) (a .left) × (lastPost [] (a .left .rows) ≡ a .left .amounts)
 
-abbrev pub EveryClosedCycle : Type 0
-EveryClosedCycle = (n : ℕ) (advance : Propagator) → KernelLaws n advance → (w : Window) (ss : List Float) (es : List Event) (tol : SteadyStateTolerance) → TimesFit w es → ClosedCycle advance n w ss es tol
+abbrev pub EveryClosedCycle : Type 1
+EveryClosedCycle = (n : ℕ) (advance : Propagator) (Refuses : Conditions) → KernelLaws n advance Refuses → (w : Window) (ss : List Float) (es : List Event) (tol : SteadyStateTolerance) → TimesFit w es → ClosedCycle advance n w ss es tol

@@ -24,7 +24,7 @@ use Rattle.protocol.specs.Entry.{mostEvents, ahead, Reply, replyOf, valuesAtExi
 use Rattle.protocol.specs.PlainRun.{PlainRun, EndRow, rowsLeft}
 use Rattle.protocol.proofs.EntryLaws.{simulate-runs, n-each, row-place}
 use Rattle.preparation.specs.Preparation.{ownNumber}
-use Rattle.prepared_run.specs.KernelRun.{propagatorOf}
+use Rattle.prepared_run.specs.KernelRun.{propagatorOf, refusalOf}
 use Rattle.simulation.specs.Entries.{room, simulateEntry, reported}
 use Rattle.run_report.specs.declared.Report.{Report}
 use Rattle.prepared_run.proofs.KernelRuns.{kernel-run}
@@ -76,7 +76,7 @@ module _ (k : LinearPk) (w : Window) (es : List Event) (count : ℕ) (a : List F
       rw (le-leb count 192 c) (simulate-runs (propagatorOf k) (ownNumber (sound k)) n (divided n w) [] fs a (room times sides values) (none-ahead times sides values t s v) ∙ ap (λ (o : Outcome). done o) (h .reaches))
 
   -- what holds of the run
-  facts : PlainRun (propagatorOf k) n (divided n w) [] fs a
+  facts : PlainRun (propagatorOf k) (refusalOf k) n (divided n w) [] fs a
   facts = kernel-run k (h .kernel) (divided n w) [] fs (h .prepared) a (h .passes)
 
   end : EndRow (divided n w) (h .left)

@@ -1,7 +1,7 @@
 -- Demand 3: `demand-3`. Assumes nothing.
 use Rattle.linear_pk.specs.LinearPk.{stateCount}
 use Rattle.protocol.proofs.Theorems.{samples-apart}
-use Rattle.prepared_run.specs.KernelRun.{propagatorOf}
+use Rattle.prepared_run.specs.KernelRun.{propagatorOf, refusalOf}
 use Rattle.prepared_run.proofs.KernelRuns.{kernel-laws, kernel-run}
 use Rattle.cycle.proofs.Theorems.{closed-cycle}
 use Rattle.demand_3.specs.Demand3.{Demand3}
@@ -9,6 +9,6 @@ use Rattle.demand_3.specs.Demand3.{Demand3}
 pub demand-3 : Demand3
 demand-3 = record {
   plain-run = kernel-run;
-  closed-cycle = λ k made. closed-cycle (stateCount k) (propagatorOf k) (kernel-laws k made);
+  closed-cycle = λ k made. closed-cycle (stateCount k) (propagatorOf k) (refusalOf k) (kernel-laws k made);
   samples-apart = samples-apart;
 }

@@ -4,7 +4,7 @@ use Prim.Native.Nat.{ℕ, zero, suc, _-_, _<_}
 use native.Mathlib.Omega.{arith}
 use mathlib.Core.Bool.{true}
 use mathlib.Core.List.{List, [], _∷_, _++_}
-use mathlib.Core.Logic.{_⊎_, inl, inr}
+use mathlib.Core.Logic.{_⊎_, inl, inr, _↔_}
 use borrow.Author.Tests.{le-leb}
 use lib.Dec.{T, eqb}
 use lib.ListN.{length, drop, length-set, length-replicate}
@@ -23,7 +23,7 @@ use Rattle.cycle.specs.Closed.{Timed, stopped, got, lastPost, residualsOf, Solv
 use Rattle.cycle.specs.ClosedCycle.{TimesFit, closedNumbers, Answers, ClosedCycle}
 use Rattle.steady_reply.specs.Entry.{steadyEntry, steadyReply}
 use Rattle.steady_reply.specs.declared.SteadyReply as P
-use Rattle.demand_3.specs.PeriodicSteadyState.{Slices, Call, states, listed, entryOf, Contract, Passed, candidate, YieldsOn, AcceptsOn, AtAnswer, AtRefusal, Replied, EverySteadyState}
+use Rattle.demand_3.specs.PeriodicSteadyState.{Slices, Call, states, listed, entryOf, Contract, Passed, candidate, YieldsOn, AcceptsOn, RejectsOn, AtAnswer, AtRefusal, Replied, EverySteadyState}
 use Rattle.demand_3.proofs.Demand3.{demand-3}
 use Rattle.demand_3.proofs.Simulate.{not-zero}
 
@@ -48,9 +48,9 @@ residuals-length : (n : ℕ) (a e : List Float) → length (residualsOf n a e) �
 unfolding residualsOf
 residuals-length n a e = tabulate-length (λ i. sub binary64 (cell e i) (cell a i)) n
 
-above : (m : ℕ) → T (oneOf m closedNumbers) → 0 < m
-above zero h = absurd h
-above (suc m) h = omega arith
+positive : (m : ℕ) → T (oneOf m closedNumbers) → 0 < m
+positive zero h = absurd h
+positive (suc m) h = omega arith
 
 -- ---- one call
 module _ (c : Call) (r : P.SteadyReply) (exit : Slices) (q : Contract c r exit) where
@@ -91,7 +91,7 @@ module _ (c : Call) (r : P.SteadyReply) (exit : Slices) (q : Contract c r exit) 
     at-zero e = on whole refl
       where
         on : (o : Timed Solved) → whole ≡ o → (s : Solved) × (whole ≡ got s)
-        on (stopped m t) d = not-zero (above m (cycle .numbers m t d)) (sym (refusal m t (begins ∙ d) .number) ∙ e)
+        on (stopped m t) d = not-zero (positive m (cycle .numbers m t d)) (sym (refusal m t (begins ∙ d) .number) ∙ e)
         on (got s) d = (s, d)
 
     reply-of : (s : Solved) → whole ≡ got s → steadyReply r ≡ steadyReplyOf (got s)
@@ -129,6 +129,19 @@ module _ (c : Call) (r : P.SteadyReply) (exit : Slices) (q : Contract c r exit) 
         on (stopped m t) d = inr (m, t, d, refusal m t (begins ∙ cycle .refuses m t d))
         on (got a) d = inl (a, cycle .yields a .0 d)
 
+    above : (a : List Float) (y : YieldsOn c a) (m : ℕ) (t : Float) → ((0 < m) × ((steadyReply r .number ≡ m) × (steadyReply r .time ≡ t))) ↔ RejectsOn c (y .folded) a m t
+    above a y m t = ((λ h. cycle .rejects a y m t .0 (on whole refl (h .0) (h .1 .0) (h .1 .1))), refused)
+      where
+        on : (o : Timed Solved) → whole ≡ o → 0 < m → steadyReply r .number ≡ m → steadyReply r .time ≡ t → whole ≡ stopped m t
+        on (stopped k u) d l e f = let h = refusal k u (begins ∙ d) in d ∙ ap₂ stopped (sym (h .number) ∙ e) (sym (h .time) ∙ f)
+        on (got s) d l e f = not-zero l (sym e ∙ ap (λ (x : SteadyReply). x .number) (reply-of s d))
+
+        refused : RejectsOn c (y .folded) a m t → (0 < m) × ((steadyReply r .number ≡ m) × (steadyReply r .time ≡ t))
+        refused g =
+            let d = cycle .rejects a y m t .1 g in
+            let h = refusal m t (begins ∙ d) in
+            (positive m (cycle .numbers m t d), (h .number, h .time))
+
     numbers : T (oneOf (steadyReply r .number) (0 ∷ closedNumbers))
     numbers = on whole refl
       where
@@ -141,6 +154,7 @@ module _ (c : Call) (r : P.SteadyReply) (exit : Slices) (q : Contract c r exit) 
       yields = yields;
       zero = λ a y. ((λ e. cycle .accepts a y .0 (at-zero e)), λ h. let s = cycle .accepts a y .1 h in ap (λ (x : SteadyReply). x .number) (reply-of (s .0) (s .1)));
       answer = λ a y h. (cycle .ends a y h .0, answer a y h);
+      above = above;
       needs = λ e. let s = at-zero e in (s .0 .amounts, cycle .needs (s .0) (s .1));
       numbers = numbers;
     }

@@ -1,6 +1,6 @@
 -- Demand 3 of what `simulate` replies and leaves: `every-simulate`, from its contract. Assumes nothing.
 use mathlib.Core.Path.{_≡_, refl, sym, ap, ap₂, _∙_, subst}
-use Prim.Native.Nat.{ℕ, zero, suc, _*_, _≤_, _<_, zero-le}
+use Prim.Native.Nat.{ℕ, zero, _*_, _≤_, _<_, zero-le}
 use native.Mathlib.Omega.{arith}
 use mathlib.Core.Bool.{Bool, true, false, cond, _&&_}
 use mathlib.Core.List.{List, [], _∷_}
@@ -19,15 +19,15 @@ use Rattle.protocol.specs.declared.Event.{Event}
 use Rattle.protocol.specs.declared.Window.{Window}
 use Rattle.protocol.specs.First.{unless, firstOf}
 use Rattle.protocol.specs.Prepare.{windowPasses, within, eventsPass, reckoned, prepare}
-use Rattle.protocol.specs.Schedule.{Step}
-use Rattle.protocol.specs.Execute.{Propagator, State, Outcome, go, stop, runOf}
+use Rattle.protocol.specs.Execute.{State, Outcome, go, stop, runOf}
 use Rattle.protocol.specs.Entry.{mostEvents, mostSamples, Room, roomFor, ahead, simulate, Reply, replyOf}
-use Rattle.protocol.specs.PlainRun.{oneOf, Cycle, Prepared, Meets, spent, overflows, refuses, state, dose, summed-rates, rowsLeft, PlainRun}
+use Rattle.protocol.specs.PlainRun.{oneOf, Cycle, Prepared, rowsLeft, Budgeted, PlainRun}
+use Rattle.protocol.proofs.Conditions.{meets-above}
 use Rattle.protocol.specs.SamplesApart.{SamplesApart}
 use Rattle.protocol.proofs.ListLaws.{or-right}
 use Rattle.protocol.proofs.EntryLaws.{Passes, ahead-none, simulate-runs, simulate-refuses}
 use Rattle.preparation.specs.Preparation.{ownNumber}
-use Rattle.prepared_run.specs.KernelRun.{propagatorOf}
+use Rattle.prepared_run.specs.KernelRun.{propagatorOf, refusalOf}
 use Rattle.simulation.specs.Entries.{simulateEntry, runReply}
 use Rattle.run_report.specs.declared.RunReply.{RunReply}
 use Rattle.demand_3.specs.Simulate.{Slices, Call, states, listed, reckonedRows, cells, entryOf, AtExit, Contract, TimesFit, Passed, runOn, FirstMetOn, AtEnd, AtStop, Replied, Apart, EverySimulate}
@@ -76,18 +76,6 @@ above-ahead k n w ss es a cells = on (leb (length es) mostEvents && leb (length 
         above-first (unless b 5 ∷ ownNumber (sound k) ∷ unless c 3 ∷ prepare n w ss es ∷ unless d 4 ∷ [])
         (test b 5 (omega arith), (above-own k, (test c 3 (omega arith), (above-prepare n w ss es, (test d 4 (omega arith), tt)))))
 
-above-kernel : (m : ℕ) → T (oneOf m (20 ∷ 21 ∷ 22 ∷ [])) → 0 < m
-above-kernel zero h = absurd h
-above-kernel (suc m) h = omega arith
-
-above-meets : {advance : Propagator} {budget m : ℕ} {t : Float} {x : Step} {s : State} → Meets advance budget m t x s → 0 < m
-above-meets (spent a h) = omega arith
-above-meets (overflows a l h) = omega arith
-above-meets (refuses {c = m} a l o e) = above-kernel m o
-above-meets (state h) = omega arith
-above-meets (dose h) = omega arith
-above-meets (summed-rates h) = omega arith
-
 pub not-zero : {A : Type 0} {m : ℕ} → 0 < m → m ≡ 0 → A
 not-zero h e = absurd (no h e)
   where
@@ -130,7 +118,7 @@ module _ (c : Call) where
   prepared : TimesFit c → Passed c → Prepared (states c) (c .window) (c .samples) (listed c)
   prepared f p = record { start-fits = f .start-fits; end-fits = f .end-fits; samples-fit = f .samples-fit; times-fit = f .times-fit; passes = passes p .prepared }
 
-  plain : TimesFit c → Passed c → PlainRun (propagatorOf (c .kernel)) (states c) (c .window) (c .samples) (listed c) (c .amounts)
+  plain : TimesFit c → Passed c → PlainRun (propagatorOf (c .kernel)) (refusalOf (c .kernel)) (states c) (c .window) (c .samples) (listed c) (c .amounts)
   plain f p = demand-3 .plain-run (c .kernel) (own-sound (c .kernel) (passes p .kernel)) (c .window) (c .samples) (listed c) (prepared f p) (c .amounts) (passes p .amounts)
 
   module _ (r : RunReply) (exit : Slices) (q : Contract c r exit) where
@@ -167,7 +155,7 @@ module _ (c : Call) where
       slices-at : (o : Outcome) → runOn c ≡ o → AtExit c (R.done o) exit
       slices-at o e = subst (λ (x : R.Result Outcome). AtExit c x exit) (began p ∙ ap R.done e) (q .slices)
 
-      run : PlainRun (propagatorOf (c .kernel)) (states c) (c .window) (c .samples) (listed c) (c .amounts)
+      run : PlainRun (propagatorOf (c .kernel)) (refusalOf (c .kernel)) (states c) (c .window) (c .samples) (listed c) (c .amounts)
       run = plain f p
 
       few : (o : Outcome) → length (rowsLeft o) ≤ reckonedRows c → replyOf (R.done o) .rows ≤ reckonedRows c
@@ -179,7 +167,7 @@ module _ (c : Call) where
         where
           on : (o : Outcome) → runOn c ≡ o → (z : State) × (runOn c ≡ go z)
           on (go z) d = (z, d)
-          on (stop m t z) d = not-zero (above-meets (run .exact m t .0 (z, d) .meets)) (sym (ap (λ (x : Reply). x .number) (reply-at (stop m t z) d)) ∙ e)
+          on (stop m t z) d = not-zero (meets-above (run .exact m t .0 (z, d) .meets)) (sym (ap (λ (x : Reply). x .number) (reply-at (stop m t z) d)) ∙ e)
 
       ends : (z : State) → runOn c ≡ go z → AtEnd c r exit z
       ends z e =
@@ -205,7 +193,7 @@ module _ (c : Call) where
       numbered m t g =
           let h = run .exact m t .1 g in
           let y = reply-at (stop m t (h .0)) (h .1) in
-          (above-meets (g .meets), (ap (λ (x : Reply). x .number) y, ap (λ (x : Reply). x .time) y))
+          (meets-above (g .meets), (ap (λ (x : Reply). x .number) y, ap (λ (x : Reply). x .time) y))
 
       stops : (m : ℕ) (t : Float) (g : FirstMetOn c m t) → AtStop c r exit m t g
       stops m t g =
@@ -219,6 +207,16 @@ module _ (c : Call) where
             sides = s .sides;
             values = s .values;
           }
+
+      budgeted : Budgeted (c .window .propagations) (runReply r .number) (runReply r .advances)
+      budgeted = on (runOn c) refl
+        where
+          not-thirty : _≡_ {A = ℕ} 0 30 → ⊥
+          not-thirty q = omega arith
+
+          on : (o : Outcome) → runOn c ≡ o → Budgeted (c .window .propagations) (runReply r .number) (runReply r .advances)
+          on (go z) d = rw (reply-at (go z) d) (record { within = λ _. run .ended z d; beyond = λ q. absurd (not-thirty q) })
+          on (stop m t z) d = rw (reply-at (stop m t z) d) (run .budgeted m t z d)
 
       cycle : Cycle (c .window) → T (oneOf (runReply r .number) (0 ∷ 20 ∷ 21 ∷ 22 ∷ 30 ∷ 31 ∷ 32 ∷ []))
       cycle k = on (run .cycle k)
@@ -235,6 +233,7 @@ module _ (c : Call) where
         ends = ends;
         above = λ m t. ((λ h. met m t (h .0) (h .1 .0) (h .1 .1)), numbered m t);
         stops = stops;
+        budgeted = budgeted;
         cycle = cycle;
       }
 

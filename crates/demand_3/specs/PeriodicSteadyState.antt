@@ -18,7 +18,7 @@ use Rattle.prepared_run.specs.KernelRun.{propagatorOf}
 use Rattle.cycle.specs.declared.SteadyStateTolerance.{SteadyStateTolerance}
 use Rattle.cycle.specs.Fold.{mostCycleEvents}
 use Rattle.cycle.specs.Closed.{Timed, stopped, divided, lastPost, candidateOf, residualsOf, Solved, steadyReplyOf, answerAtExit}
-use Rattle.cycle.specs.ClosedCycle.{TimesFit, closedNumbers, Yields, Accepts, largestTo}
+use Rattle.cycle.specs.ClosedCycle.{TimesFit, closedNumbers, Yields, Accepts, Rejects, largestTo}
 use Rattle.steady_reply.specs.Entry.{steadyRoom, steadyEntry, steadyReply}
 use Rattle.steady_reply.specs.declared.SteadyReply.{SteadyReply}
 
@@ -75,6 +75,10 @@ YieldsOn c a = Yields (propagatorOf (c .kernel)) (states c) (c .window) (c .samp
 abbrev pub AcceptsOn : Call → List Event → List Float → Type 0
 AcceptsOn c fs a = Accepts (propagatorOf (c .kernel)) (states c) (c .window) (c .tolerance) fs a
 
+-- it is refused with the number m and the time t
+abbrev pub RejectsOn : Call → List Event → List Float → ℕ → Float → Type 0
+RejectsOn c fs a m t = Rejects (propagatorOf (c .kernel)) (states c) (c .window) (c .tolerance) fs a m t
+
 -- the candidate a, whose own run ends with e, is the answer: it and its residuals stand in front of the old cells
 pub record AtAnswer (c : Call) (r : SteadyReply) (exit : Slices) (a e : List Float) : Type 0 where
   pub time : steadyReply r .time ≡ plusZero
@@ -97,6 +101,8 @@ pub record Replied (c : Call) (r : SteadyReply) (exit : Slices) : Type 0 where
   -- then its run comes to the post row at the end, and the answer is the candidate with the residuals of that run
   pub answer : (a : List Float) (y : YieldsOn c a) (h : AcceptsOn c (y .folded) a)
       → Reached (states c) (divided (states c) (c .window)) [] (y .folded) (h .left) × AtAnswer c r exit a (lastPost [] (h .left .rows))
+  -- a number above 0 with a time exactly where the candidate is refused so
+  pub above : (a : List Float) (y : YieldsOn c a) (m : ℕ) (t : Float) → ((0 < m) × ((steadyReply r .number ≡ m) × (steadyReply r .time ≡ t))) ↔ RejectsOn c (y .folded) a m t
   -- no 0 without a candidate
   pub needs : steadyReply r .number ≡ 0 → (a : List Float) × YieldsOn c a
   -- one of these, and never 3 or 4

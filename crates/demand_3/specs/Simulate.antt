@@ -19,10 +19,10 @@ use Rattle.protocol.specs.Prepare.{reckoned}
 use Rattle.protocol.specs.Schedule.{schedule}
 use Rattle.protocol.specs.Execute.{State, Outcome, go, begin, runOf}
 use Rattle.protocol.specs.Entry.{mostEvents, Room, ahead, replyOf, laid, timesAtExit, sidesAtExit, valuesAtExit}
-use Rattle.protocol.specs.PlainRun.{oneOf, Cycle, FirstMet, advancesBy, Reached}
+use Rattle.protocol.specs.PlainRun.{oneOf, Cycle, FirstMet, advancesBy, Reached, Budgeted}
 use Rattle.protocol.specs.SamplesApart.{SamplesApart}
 use Rattle.preparation.specs.Preparation.{ownNumber}
-use Rattle.prepared_run.specs.KernelRun.{propagatorOf}
+use Rattle.prepared_run.specs.KernelRun.{propagatorOf, refusalOf}
 use Rattle.simulation.specs.Entries.{room, simulateEntry, runReply}
 use Rattle.run_report.specs.declared.RunReply.{RunReply}
 
@@ -90,7 +90,7 @@ runOn c = runOf (propagatorOf (c .kernel)) (states c) (c .window) (c .samples) (
 
 -- the first condition that 01's run meets is that of the number m, with the time t
 abbrev pub FirstMetOn : Call → ℕ → Float → Type 0
-FirstMetOn c m t = FirstMet (propagatorOf (c .kernel)) (c .window .propagations) (begin (c .amounts)) (schedule (states c) (c .window) (c .samples) (listed c)) m t
+FirstMetOn c m t = FirstMet (propagatorOf (c .kernel)) (refusalOf (c .kernel)) (c .window .propagations) (begin (c .amounts)) (schedule (states c) (c .window) (c .samples) (listed c)) m t
 
 -- 01's run reaches the end with the state z, and the call replies so: rows and advances of that run in the reply, its rows in the slices
 pub record AtEnd (c : Call) (r : RunReply) (exit : Slices) (z : State) : Type 0 where
@@ -116,6 +116,8 @@ pub record Replied (c : Call) (r : RunReply) (exit : Slices) : Type 0 where
   -- a number above 0 with a time exactly where the first condition met is that of the number with that time
   pub above : (m : ℕ) (t : Float) → ((0 < m) × ((runReply r .number ≡ m) × (runReply r .time ≡ t))) ↔ FirstMetOn c m t
   pub stops : (m : ℕ) (t : Float) (f : FirstMetOn c m t) → AtStop c r exit m t f
+  -- advances: at most the budget, unless the number is 30; the budget and one then
+  pub budgeted : Budgeted (c .window .propagations) (runReply r .number) (runReply r .advances)
   -- in a cycle one of these, and never 3
   pub cycle : Cycle (c .window) → T (oneOf (runReply r .number) (0 ∷ 20 ∷ 21 ∷ 22 ∷ 30 ∷ 31 ∷ 32 ∷ []))
 

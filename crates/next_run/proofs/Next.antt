@@ -26,7 +26,7 @@ use Rattle.protocol.specs.Execute.{Row, Outcome}
 use Rattle.protocol.specs.PlainRun.{rowsLeft}
 use Rattle.protocol.proofs.EntryLaws.{width}
 use Rattle.protocol.proofs.ListLaws.{both}
-use Rattle.prepared_run.specs.KernelRun.{propagatorOf}
+use Rattle.prepared_run.specs.KernelRun.{propagatorOf, refusalOf}
 use Rattle.prepared_run.proofs.KernelRuns.{kernel-laws, kernel-run}
 use Rattle.layout.specs.Layout.{eventCount, eventOf, eventsOf, eventOrNone}
 use Rattle.layout.proofs.Laws.{front-events}
@@ -79,7 +79,7 @@ module _ (k : LinearPk) (w ss es : List ℕ) (h : sound k ≡ done k) (few : eve
   fit = record { start-fits = start-made w; end-fits = end-made w; times-fit = times-made es }
 
   facts : ClosedCycle (propagatorOf k) n (windowOf w) (doublesOf ss) (eventsOf es) (toleranceOf w)
-  facts = closed-cycle n (propagatorOf k) (kernel-laws k h) (windowOf w) (doublesOf ss) (eventsOf es) (toleranceOf w) fit
+  facts = closed-cycle n (propagatorOf k) (refusalOf k) (kernel-laws k h) (windowOf w) (doublesOf ss) (eventsOf es) (toleranceOf w) fit
 
   is-closed : closed (propagatorOf k) n (windowOf w) (doublesOf ss) (eventsOf es) (toleranceOf w) true ≡ got s
   unfolding steadyWith

@@ -33,7 +33,7 @@ use Rattle.rows.specs.Told.{Told, told, behindOf, after, Ran, kernelAdvance}
 use Rattle.rows.proofs.Exits.{written-times, written-sides, written-values, put-zeros, progressReply, ran-reply, ran-rows}
 use Rattle.rows.proofs.Parts.{ran-same}
 use Rattle.rows.proofs.Puts.{room-less}
-use Rattle.prepared_run.specs.KernelRun.{propagatorOf}
+use Rattle.prepared_run.specs.KernelRun.{propagatorOf, refusalOf}
 use Rattle.preparation.specs.Preparation.{ownNumber}
 use Rattle.simulate_matrix.specs.Started.{started}
 use Rattle.run_report.specs.Replies.{room, runReply}
@@ -114,7 +114,7 @@ module _ (k : LinearPk) (initial : List Float) (w : Window) (ss : List Float) (e
       abbrev pub outcome : Outcome
       outcome = runOf (propagatorOf k) (stateCount k) w ss es (take (stateCount k) initial)
 
-      run-facts : PlainRun (propagatorOf k) (stateCount k) w ss es (take (stateCount k) initial)
+      run-facts : PlainRun (propagatorOf k) (refusalOf k) (stateCount k) w ss es (take (stateCount k) initial)
       run-facts = kernel-run k (own-none k (begins .kernel)) w ss es prep (take (stateCount k) initial) (begins .amounts)
 
       pub whole-reply : progressReply p ≡ replyOf (done outcome)

@@ -22,7 +22,7 @@ use Rattle.protocol.specs.Prepare.{prepare}
 use Rattle.protocol.specs.Schedule.{flows, rateOf, summed}
 use Rattle.protocol.specs.Execute.{Propagator, Row, Side, Pre, Post, Reading, Outcome, go, stop, dosed, runOf}
 use Rattle.protocol.specs.Entry.{Room, Reply, simulate, replyOf, timesAtExit, sidesAtExit, valuesAtExit}
-use Rattle.protocol.specs.PlainRun.{oneOf, argumentsPass, KernelLaws, Prepared, PlainRun}
+use Rattle.protocol.specs.PlainRun.{oneOf, argumentsPass, Conditions, KernelLaws, Prepared, PlainRun}
 use Rattle.protocol.proofs.ListLaws.{both}
 use Rattle.protocol.proofs.Theorems.{plain-run}
 
@@ -212,9 +212,13 @@ order-of-tests = (refl, refl, refl, refl)
 zero-one : _≡_ {A = ℕ} 0 1 → ⊥
 zero-one z = omega arith
 
-keeper-laws : (n : ℕ) → KernelLaws n (keeper n)
+-- with arguments that pass it refuses nothing
+abbrev never : Conditions
+never c a r d = ⊥
+
+keeper-laws : (n : ℕ) → KernelLaws n (keeper n) never
 unfolding keeper
-keeper-laws n = record { three = λ a r d. (to a r d, fro a r d); numbers = numbers; amounts = amounts }
+keeper-laws n = record { three = λ a r d. (to a r d, fro a r d); numbers = numbers; amounts = amounts; conditions = λ a r d h _ c. (takes a r d h c, λ x. absurd x) }
   where
     to : (a r : List Float) (d : Float) → keeper n a r d ≡ refused 3 → T (not (argumentsPass n a r d))
     to a r d e = on (argumentsPass n a r d) e
@@ -244,11 +248,18 @@ keeper-laws n = record { three = λ a r d. (to a r d, fro a r d); numbers = numb
         on true h q = subst (λ (x : List Float). T (amountsPass n x)) (let p : a ≡ v = cc in p) (h tt)
         on false h q = let z : _≡_ {A = ℕ} 0 1 = cc in absurd (zero-one z)
 
+    takes : (a r : List Float) (d : Float) → T (argumentsPass n a r d) → (c : ℕ) → keeper n a r d ≡ refused c → ⊥
+    takes a r d h c e = on (argumentsPass n a r d) h e
+      where
+        on : (b : Bool) → T b → guarded b a ≡ refused c → ⊥
+        on true h q = let z : _≡_ {A = ℕ} 0 1 = cc in zero-one z
+        on false h q = h
+
 -- and the example is a list that passes
 example-given : Prepared 1 (window plusZero one) [] example
 unfolding fits
 example-given = record { start-fits = tt; end-fits = tt; samples-fit = tt; times-fit = tt; passes = example-passes }
 
-example-run : PlainRun (keeper 1) 1 (window plusZero one) [] example (three ∷ [])
+example-run : PlainRun (keeper 1) never 1 (window plusZero one) [] example (three ∷ [])
 unfolding lt
-example-run = plain-run 1 (keeper 1) (keeper-laws 1) (window plusZero one) [] example example-given (three ∷ []) tt
+example-run = plain-run 1 (keeper 1) never (keeper-laws 1) (window plusZero one) [] example example-given (three ∷ []) tt

@@ -4,6 +4,7 @@
 use mathlib.Core.Path.{_≡_, refl, sym, ap, _∙_, subst}
 use Prim.Native.Nat.{ℕ, zero, suc, _≤_, _<_}
 use native.Mathlib.Nat.{lt-irrefl, lt-of-le-of-lt}
+use native.Mathlib.Omega.{arith}
 use mathlib.Core.Bool.{Bool, true, false, not, cond, _&&_, _||_}
 use mathlib.Core.List.{List, [], _∷_, _++_, map}
 use mathlib.Core.Logic.{_⊎_, inl, inr, _↔_}
@@ -22,9 +23,9 @@ use Rattle.refusal.specs.Result.{Result, refused, done}
 use Rattle.protocol.specs.Events.{target, sortedUnique, boundaries, hasEvent, resets, boluses, inside}
 use Rattle.protocol.specs.Schedule.{Step, check, pre, post, apply, rates, reading, arrive, addTo, flows, rateOf, withRate, withRates, summed, marked, atBoundary, onInterval, following, fromFirst, schedule}
 use Rattle.protocol.specs.Execute.{Propagator, Row, Reading, State, Outcome, go, stop, andThen, withAmounts, withRow, counted, dosed, applied, settle, propagate, execute, run, begin, runOf}
-use Rattle.protocol.specs.PlainRun.{oneOf, argumentsPass, KernelLaws, Prepared, Cycle, Advances, to-reading, to-boundary, Meets, spent, overflows, refuses, state, dose, summed-rates, FirstMet, rowsLeft}
+use Rattle.protocol.specs.PlainRun.{oneOf, argumentsPass, Conditions, KernelLaws, Prepared, Cycle, Advances, to-reading, to-boundary, Meets, spent, overflows, refuses, state, dose, summed-rates, FirstMet, rowsLeft}
 use Rattle.protocol.proofs.ListLaws.{both, and-T, all-snoc, All-map, All-append, All-keep}
-use Rattle.protocol.proofs.Times.{Inner, Rated, Passed, passed, boundaries-in, boundaries-rise, readings-in, rated, lasts, duration}
+use Rattle.protocol.proofs.Times.{Inner, Rated, Passed, passed, boundaries-in, boundaries-rise, readings-in, rated, lasts, duration, not-zero}
 use Rattle.protocol.proofs.FirstStop.{go-stop, stop-go, go-same, stop-same, stop-splits, split-stops}
 use Rattle.protocol.proofs.Effects.{stop-left}
 
@@ -79,6 +80,9 @@ amounts-count : (n : ℕ) (s : State) → Sound n s → length (s .amounts) ≡ 
 amounts-count n s h = eqb→eq (length (s .amounts)) n (both (eqb (length (s .amounts)) n) (all nonnegative (s .amounts)) (h .amounts) .0)
 
 -- ---- an advance, taken apart
+same-number : {c d : ℕ} → _≡_ {A = Result (List Float)} (refused c) (refused d) → c ≡ d
+same-number e = cc
+
 -- the step goes on, with an advance that gives the amounts a
 Moves : Propagator → Float → List Float → Float → (List Float → State → State) → State → State → Type 0
 Moves advance t r u k s z = (a : List Float) × (advance (s .amounts) r (sub binary64 u t) ≡ done a) × (k a (counted t u s) ≡ z)
@@ -163,7 +167,7 @@ Ready n w (rates r) = Unit {0}
 Ready n w (reading t r u) = Forward n w t r u
 Ready n w (arrive t r u) = Forward n w t r u
 
-module _ (n : ℕ) (advance : Propagator) (budget : ℕ) (laws : KernelLaws n advance) where
+module _ (n : ℕ) (advance : Propagator) {Refuses : Conditions} (budget : ℕ) (laws : KernelLaws n advance Refuses) where
   -- ---- a step keeps what is sound
   step-sound : (x : Step) (s z : State) → Sound n s → execute advance budget s x ≡ go z → Sound n z
   unfolding execute Moves
@@ -208,42 +212,6 @@ module _ (n : ℕ) (advance : Propagator) (budget : ℕ) (laws : KernelLaws n ad
         and-T (amountsPass n (s .amounts)) (amountsPass n r && nonnegative (sub binary64 u t)) (sound .amounts)
         (and-T (amountsPass n r) (nonnegative (sub binary64 u t)) (g .3) (duration t u (g .0) (g .1) (g .2) f))
 
-    -- the kernel's number is 3 where u − t overflows, and else one of the three
-    kernel-meets : {x : Step} {t : Float} {r : List Float} {u : Float} → Advances x t r u → Forward n w t r u → (c : ℕ) → length (s .advances) < budget
-        → advance (s .amounts) r (sub binary64 u t) ≡ refused c → Meets advance budget c u x s
-    kernel-meets {x} {t} {r} {u} to g c l e = on (eqb c 3) (eqb→eq c 3) (laws .numbers (s .amounts) r (sub binary64 u t) c e)
-      where
-        on : (b : Bool) → (T b → c ≡ 3) → T (b || oneOf c (20 ∷ 21 ∷ 22 ∷ [])) → Meets advance budget c u x s
-        on true f h =
-            subst (λ (d : ℕ). Meets advance budget d u x s) (sym (f tt))
-            (overflows to l (not-T (finite (sub binary64 u t)) (λ (p : T (finite (sub binary64 u t))).
-            T-not (argumentsPass n (s .amounts) r (sub binary64 u t)) (laws .three (s .amounts) r (sub binary64 u t) .0 (e ∙ ap refused (f tt))) (arguments t r u g p))))
-        on false f h = refuses to l h e
-
-    advance-meets : {x : Step} {t : Float} {r : List Float} {u : Float} → Advances x t r u → Forward n w t r u → (k : List Float → State → State) (c : ℕ) (v : Float) (z : State)
-        → propagate advance budget t r u k s ≡ stop c v z → Meets advance budget c v x s
-    advance-meets {x} {t} {r} {u} to g k c v z e = let h = halts advance budget t r u k s c v z e in subst (λ (y : Float). Meets advance budget c y x s) (h .0) (on (h .1))
-      where
-        on : ((30 ≡ c) × (budget ≤ length (s .advances))) ⊎ ((length (s .advances) < budget) × (advance (s .amounts) r (sub binary64 u t) ≡ refused c)) → Meets advance budget c u x s
-        on (inl h) = subst (λ (d : ℕ). Meets advance budget d u x s) (h .0) (spent to (h .1))
-        on (inr h) = kernel-meets to g c (h .0) (h .1)
-
-    pub step-meets : (x : Step) → Ready n w x → (c : ℕ) (t : Float) (z : State) → execute advance budget s x ≡ stop c t z → Meets advance budget c t x s
-    unfolding execute
-    step-meets (check t) g c u z e =
-        let h = fails (all nonnegative (s .amounts)) 31 t s c u z e in
-        subst (λ (d : ℕ). Meets advance budget d u (check t) s) (h .1) (subst (λ (y : Float). Meets advance budget 31 y (check t) s) (h .2) (state (h .0)))
-    step-meets (pre t) g c u z e = absurd (go-stop e)
-    step-meets (post t) g c u z e = absurd (go-stop e)
-    step-meets (apply t v) g c u z e =
-        let h = fails (all nonnegative (applied v (s .amounts))) 31 t (withAmounts (applied v (s .amounts)) s) c u z e in
-        subst (λ (d : ℕ). Meets advance budget d u (apply t v) s) (h .1) (subst (λ (y : Float). Meets advance budget 31 y (apply t v) s) (h .2) (dose (h .0)))
-    step-meets (rates r) g c u z e =
-        let h = fails (all finite r) 32 plusZero s c u z e in
-        subst (λ (d : ℕ). Meets advance budget d u (rates r) s) (h .1) (subst (λ (y : Float). Meets advance budget 32 y (rates r) s) (h .2) (summed-rates (h .0)))
-    step-meets (reading t r u) g c v z e = advance-meets to-reading g (λ (a : List Float). withRow u Reading a) c v z e
-    step-meets (arrive t r u) g c v z e = advance-meets to-boundary g (λ (a : List Float). withAmounts a) c v z e
-
     -- an advance whose duration overflows is refused with 3
     three : (t : Float) (r : List Float) (u : Float) → T (not (finite (sub binary64 u t))) → advance (s .amounts) r (sub binary64 u t) ≡ refused 3
     three t r u h = laws .three (s .amounts) r (sub binary64 u t) .1 (not-T (argumentsPass n (s .amounts) r (sub binary64 u t)) no)
@@ -253,17 +221,57 @@ module _ (n : ℕ) (advance : Propagator) (budget : ℕ) (laws : KernelLaws n ad
             let q = both (amountsPass n (s .amounts)) (amountsPass n r && nonnegative (sub binary64 u t)) p .1 in
             T-not (finite (sub binary64 u t)) h (both (finite (sub binary64 u t)) (not (lt (sub binary64 u t) plusZero)) (both (amountsPass n r) (nonnegative (sub binary64 u t)) q .1) .0)
 
-    pub meets-stops : {x : Step} {c : ℕ} {t : Float} → Meets advance budget c t x s → (z : State) × (execute advance budget s x ≡ stop c t z)
+    -- and else with a number exactly where its condition holds
+    conditions : (t : Float) (r : List Float) (u : Float) → Forward n w t r u → T (finite (sub binary64 u t)) → (c : ℕ) → (advance (s .amounts) r (sub binary64 u t) ≡ refused c) ↔ Refuses c (s .amounts) r (sub binary64 u t)
+    conditions t r u g f = laws .conditions (s .amounts) r (sub binary64 u t) (arguments t r u g f) (not-zero t u (g .0) (g .1) (g .2) f)
+
+    kernel-meets : {x : Step} {t : Float} {r : List Float} {u : Float} → Advances x t r u → Forward n w t r u → (c : ℕ) → length (s .advances) < budget
+        → advance (s .amounts) r (sub binary64 u t) ≡ refused c → Meets Refuses budget c u x s
+    kernel-meets {x} {t} {r} {u} to g c l e = on (finite (sub binary64 u t)) (λ p. p) (λ p. p)
+      where
+        arithmetic : (b : Bool) → (T b → c ≡ 3) → T (finite (sub binary64 u t)) → T (b || oneOf c (20 ∷ 21 ∷ 22 ∷ [])) → T (oneOf c (20 ∷ 21 ∷ 22 ∷ []))
+        arithmetic true f p h = absurd (T-not (argumentsPass n (s .amounts) r (sub binary64 u t)) (laws .three (s .amounts) r (sub binary64 u t) .0 (e ∙ ap refused (f tt))) (arguments t r u g p))
+        arithmetic false f p h = h
+
+        on : (b : Bool) → (T b → T (finite (sub binary64 u t))) → (T (not b) → T (not (finite (sub binary64 u t)))) → Meets Refuses budget c u x s
+        on true f h = refuses to l (f tt) (arithmetic (eqb c 3) (eqb→eq c 3) (f tt) (laws .numbers (s .amounts) r (sub binary64 u t) c e)) (conditions t r u g (f tt) c .0 e)
+        on false f h = subst (λ (d : ℕ). Meets Refuses budget d u x s) (same-number (sym (three t r u (h tt)) ∙ e)) (overflows to l (h tt))
+
+    advance-meets : {x : Step} {t : Float} {r : List Float} {u : Float} → Advances x t r u → Forward n w t r u → (k : List Float → State → State) (c : ℕ) (v : Float) (z : State)
+        → propagate advance budget t r u k s ≡ stop c v z → Meets Refuses budget c v x s
+    advance-meets {x} {t} {r} {u} to g k c v z e = let h = halts advance budget t r u k s c v z e in subst (λ (y : Float). Meets Refuses budget c y x s) (h .0) (on (h .1))
+      where
+        on : ((30 ≡ c) × (budget ≤ length (s .advances))) ⊎ ((length (s .advances) < budget) × (advance (s .amounts) r (sub binary64 u t) ≡ refused c)) → Meets Refuses budget c u x s
+        on (inl h) = subst (λ (d : ℕ). Meets Refuses budget d u x s) (h .0) (spent to (h .1))
+        on (inr h) = kernel-meets to g c (h .0) (h .1)
+
+    pub step-meets : (x : Step) → Ready n w x → (c : ℕ) (t : Float) (z : State) → execute advance budget s x ≡ stop c t z → Meets Refuses budget c t x s
     unfolding execute
-    meets-stops (spent {t = t} {r = r} {u = u} to-reading h) = (counted t u s, halts-spent advance budget t r u (λ (a : List Float). withRow u Reading a) s h)
-    meets-stops (spent {t = t} {r = r} {u = u} to-boundary h) = (counted t u s, halts-spent advance budget t r u (λ (a : List Float). withAmounts a) s h)
-    meets-stops (overflows {t = t} {r = r} {u = u} to-reading l h) = (counted t u s, halts-refused advance budget t r u (λ (a : List Float). withRow u Reading a) s 3 l (three t r u h))
-    meets-stops (overflows {t = t} {r = r} {u = u} to-boundary l h) = (counted t u s, halts-refused advance budget t r u (λ (a : List Float). withAmounts a) s 3 l (three t r u h))
-    meets-stops (refuses {t = t} {r = r} {u = u} {c = c} to-reading l o e) = (counted t u s, halts-refused advance budget t r u (λ (a : List Float). withRow u Reading a) s c l e)
-    meets-stops (refuses {t = t} {r = r} {u = u} {c = c} to-boundary l o e) = (counted t u s, halts-refused advance budget t r u (λ (a : List Float). withAmounts a) s c l e)
-    meets-stops (state {t = t} h) = (s, fails-back (all nonnegative (s .amounts)) 31 t s h)
-    meets-stops (dose {t = t} {e = v} h) = (withAmounts (applied v (s .amounts)) s, fails-back (all nonnegative (applied v (s .amounts))) 31 t (withAmounts (applied v (s .amounts)) s) h)
-    meets-stops (summed-rates {r = r} h) = (s, fails-back (all finite r) 32 plusZero s h)
+    step-meets (check t) g c u z e =
+        let h = fails (all nonnegative (s .amounts)) 31 t s c u z e in
+        subst (λ (d : ℕ). Meets Refuses budget d u (check t) s) (h .1) (subst (λ (y : Float). Meets Refuses budget 31 y (check t) s) (h .2) (state (h .0)))
+    step-meets (pre t) g c u z e = absurd (go-stop e)
+    step-meets (post t) g c u z e = absurd (go-stop e)
+    step-meets (apply t v) g c u z e =
+        let h = fails (all nonnegative (applied v (s .amounts))) 31 t (withAmounts (applied v (s .amounts)) s) c u z e in
+        subst (λ (d : ℕ). Meets Refuses budget d u (apply t v) s) (h .1) (subst (λ (y : Float). Meets Refuses budget 31 y (apply t v) s) (h .2) (dose (h .0)))
+    step-meets (rates r) g c u z e =
+        let h = fails (all finite r) 32 plusZero s c u z e in
+        subst (λ (d : ℕ). Meets Refuses budget d u (rates r) s) (h .1) (subst (λ (y : Float). Meets Refuses budget 32 y (rates r) s) (h .2) (summed-rates (h .0)))
+    step-meets (reading t r u) g c v z e = advance-meets to-reading g (λ (a : List Float). withRow u Reading a) c v z e
+    step-meets (arrive t r u) g c v z e = advance-meets to-boundary g (λ (a : List Float). withAmounts a) c v z e
+
+    pub meets-stops : {x : Step} {c : ℕ} {t : Float} → Ready n w x → Meets Refuses budget c t x s → (z : State) × (execute advance budget s x ≡ stop c t z)
+    unfolding execute
+    meets-stops g (spent {t = t} {r = r} {u = u} to-reading h) = (counted t u s, halts-spent advance budget t r u (λ (a : List Float). withRow u Reading a) s h)
+    meets-stops g (spent {t = t} {r = r} {u = u} to-boundary h) = (counted t u s, halts-spent advance budget t r u (λ (a : List Float). withAmounts a) s h)
+    meets-stops g (overflows {t = t} {r = r} {u = u} to-reading l h) = (counted t u s, halts-refused advance budget t r u (λ (a : List Float). withRow u Reading a) s 3 l (three t r u h))
+    meets-stops g (overflows {t = t} {r = r} {u = u} to-boundary l h) = (counted t u s, halts-refused advance budget t r u (λ (a : List Float). withAmounts a) s 3 l (three t r u h))
+    meets-stops g (refuses {t = t} {r = r} {u = u} {c = c} to-reading l f o h) = (counted t u s, halts-refused advance budget t r u (λ (a : List Float). withRow u Reading a) s c l (conditions t r u g f c .1 h))
+    meets-stops g (refuses {t = t} {r = r} {u = u} {c = c} to-boundary l f o h) = (counted t u s, halts-refused advance budget t r u (λ (a : List Float). withAmounts a) s c l (conditions t r u g f c .1 h))
+    meets-stops g (state {t = t} h) = (s, fails-back (all nonnegative (s .amounts)) 31 t s h)
+    meets-stops g (dose {t = t} {e = v} h) = (withAmounts (applied v (s .amounts)) s, fails-back (all nonnegative (applied v (s .amounts))) 31 t (withAmounts (applied v (s .amounts)) s) h)
+    meets-stops g (summed-rates {r = r} h) = (s, fails-back (all finite r) 32 plusZero s h)
 
   -- ---- P of each step that a run from s comes to
   module _ (P : Step → Type 0) where
@@ -347,24 +355,24 @@ module _ (n : ℕ) (advance : Propagator) (budget : ℕ) (laws : KernelLaws n ad
         on (t ∷ ts) p c = following-ready es (sortedUnique ss) (replicate (length es) false) t ts (rated k) (readings-in k) p c s
 
 -- ---- a run of a prepared list
-module _ (n : ℕ) (advance : Propagator) (laws : KernelLaws n advance) (w : Window) (ss : List Float) (es : List Event) (given : Prepared n w ss es) (a : List Float) (fine : T (amountsPass n a)) where
+module _ (n : ℕ) (advance : Propagator) {Refuses : Conditions} (laws : KernelLaws n advance Refuses) (w : Window) (ss : List Float) (es : List Event) (given : Prepared n w ss es) (a : List Float) (fine : T (amountsPass n a)) where
   pub begin-sound : Sound n (begin a)
   begin-sound = record { amounts = fine; rows = tt }
 
   -- a step that the run comes to is ready
-  reached-ready : (xs : List Step) (x : Step) (rest : List Step) (z : State) → schedule n w ss es ≡ xs ++ (x ∷ rest) → run advance (w .propagations) (begin a) xs ≡ go z → Ready n w x
+  pub reached-ready : (xs : List Step) (x : Step) (rest : List Step) (z : State) → schedule n w ss es ≡ xs ++ (x ∷ rest) → run advance (w .propagations) (begin a) xs ≡ go z → Ready n w x
   reached-ready xs x rest z e r =
       along-at n advance (w .propagations) laws (Ready n w) xs x rest (begin a) z
       (subst (λ (l : List Step). Along n advance (w .propagations) laws (Ready n w) (begin a) l) e (schedule-ready n advance (w .propagations) laws w ss es (passed given) (begin a))) r
 
-  pub first-met : (c : ℕ) (t : Float) → ((z : State) × (runOf advance n w ss es a ≡ stop c t z)) ↔ FirstMet advance (w .propagations) (begin a) (schedule n w ss es) c t
+  pub first-met : (c : ℕ) (t : Float) → ((z : State) × (runOf advance n w ss es a ≡ stop c t z)) ↔ FirstMet advance Refuses (w .propagations) (begin a) (schedule n w ss es) c t
   unfolding runOf
   first-met c t = (to, fro)
     where
       budget : ℕ
       budget = w .propagations
 
-      to : ((z : State) × (run advance budget (begin a) (schedule n w ss es) ≡ stop c t z)) → FirstMet advance budget (begin a) (schedule n w ss es) c t
+      to : ((z : State) × (run advance budget (begin a) (schedule n w ss es) ≡ stop c t z)) → FirstMet advance Refuses budget (begin a) (schedule n w ss es) c t
       to (z, e) =
           let f = stop-splits advance budget (schedule n w ss es) (begin a) c t z e in
           record {
@@ -377,9 +385,9 @@ module _ (n : ℕ) (advance : Propagator) (laws : KernelLaws n advance) (w : Win
             meets = step-meets n advance budget laws w (f .left) (run-sound n advance budget laws (f .ahead) (begin a) (f .left) begin-sound (f .ran)) (f .step) (reached-ready (f .ahead) (f .step) (f .rest) (f .left) (f .parts) (f .ran)) c t z (f .refuses);
           }
 
-      fro : FirstMet advance budget (begin a) (schedule n w ss es) c t → (z : State) × (run advance budget (begin a) (schedule n w ss es) ≡ stop c t z)
+      fro : FirstMet advance Refuses budget (begin a) (schedule n w ss es) c t → (z : State) × (run advance budget (begin a) (schedule n w ss es) ≡ stop c t z)
       fro f =
-          let m = meets-stops n advance budget laws w (f .left) (run-sound n advance budget laws (f .ahead) (begin a) (f .left) begin-sound (f .ran)) (f .meets) in (
+          let m = meets-stops n advance budget laws w (f .left) (run-sound n advance budget laws (f .ahead) (begin a) (f .left) begin-sound (f .ran)) (reached-ready (f .ahead) (f .step) (f .rest) (f .left) (f .parts) (f .ran)) (f .meets) in (
             m .0,
             split-stops advance budget (schedule n w ss es) (begin a) c t (m .0) (record { ahead = f .ahead; step = f .step; rest = f .rest; parts = f .parts; left = f .left; ran = f .ran; refuses = m .1 }),
           )
@@ -389,10 +397,10 @@ module _ (n : ℕ) (advance : Propagator) (laws : KernelLaws n advance) (w : Win
   forward to-reading g = g
   forward to-boundary g = g
 
-  number : {s : State} {x : Step} {c : ℕ} {t : Float} → Cycle w → Ready n w x → Meets advance (w .propagations) c t x s → T (oneOf c (20 ∷ 21 ∷ 22 ∷ 30 ∷ 31 ∷ 32 ∷ []))
+  number : {s : State} {x : Step} {c : ℕ} {t : Float} → Cycle w → Ready n w x → Meets Refuses (w .propagations) c t x s → T (oneOf c (20 ∷ 21 ∷ 22 ∷ 30 ∷ 31 ∷ 32 ∷ []))
   number k g (spent to h) = tt
   number k g (overflows {t = t} {u = u} to l h) = let p = forward to g in absurd (T-not (finite (sub binary64 u t)) h (lasts (passed given) t u k (p .0) (p .1) (p .2)))
-  number k g (refuses {c = c} to l h e) = on (eqb c 20) (eqb c 21) (eqb c 22) (oneOf c (30 ∷ 31 ∷ 32 ∷ [])) h
+  number k g (refuses {c = c} to l f h e) = on (eqb c 20) (eqb c 21) (eqb c 22) (oneOf c (30 ∷ 31 ∷ 32 ∷ [])) h
     where
       on : (p q r z : Bool) → T (p || (q || (r || false))) → T (p || (q || (r || z)))
       on true q r z h = tt
@@ -405,3 +413,16 @@ module _ (n : ℕ) (advance : Propagator) (laws : KernelLaws n advance) (w : Win
 
   pub stop-numbers : Cycle w → (c : ℕ) (t : Float) (z : State) → runOf advance n w ss es a ≡ stop c t z → T (oneOf c (20 ∷ 21 ∷ 22 ∷ 30 ∷ 31 ∷ 32 ∷ []))
   stop-numbers k c t z e = let f = first-met c t .0 (z, e) in number k (reached-ready (f .ahead) (f .step) (f .rest) (f .left) (f .parts) (f .ran)) (f .meets)
+
+-- ---- the number of a condition is above 0
+pub meets-above : {Refuses : Conditions} {budget c : ℕ} {t : Float} {x : Step} {s : State} → Meets Refuses budget c t x s → 0 < c
+meets-above (spent to h) = omega arith
+meets-above (overflows to l h) = omega arith
+meets-above (refuses {c = c} to l f o h) = on c o
+  where
+    on : (c : ℕ) → T (oneOf c (20 ∷ 21 ∷ 22 ∷ [])) → 0 < c
+    on zero o = absurd o
+    on (suc c) o = omega arith
+meets-above (state h) = omega arith
+meets-above (dose h) = omega arith
+meets-above (summed-rates h) = omega arith

@@ -86,7 +86,7 @@ module _ (advance : Propagator) where
       advances = sym (ap (λ (m : List Advance). s .advances ++ (m ++ [])) q ∙ append-nil (s .advances));
     }
 
-    step-left : (x : Step) (s z : State) → execute advance budget s x ≡ go z → Left s (x ∷ []) z
+    pub step-left : (x : Step) (s z : State) → execute advance budget s x ≡ go z → Left s (x ∷ []) z
     unfolding execute
     step-left (check t) s z e = subst (Left s (check t ∷ [])) (passed (all nonnegative (s .amounts)) 31 t s s z e) (quiet s (check t) refl refl)
     step-left (pre t) s z e = subst (Left s (pre t ∷ [])) (go-same e) (record { amounts = refl; rows = refl; advances = sym (append-nil (s .advances)) })

@@ -20,7 +20,7 @@ use Rattle.protocol.specs.Events.{time}
 use Rattle.protocol.specs.Prepare.{reckoned, prepare}
 use Rattle.protocol.specs.Execute.{Propagator, Row, Outcome, go, stop, runOf}
 use Rattle.protocol.specs.Entry.{mostEvents, mostSamples, Room, roomFor, ahead, simulate, sideCode, laid, atExit, timesAtExit, sidesAtExit, valuesAtExit}
-use Rattle.protocol.specs.PlainRun.{KernelLaws, rowsLeft, PlainRun}
+use Rattle.protocol.specs.PlainRun.{Conditions, KernelLaws, rowsLeft, PlainRun}
 use Rattle.protocol.proofs.ListLaws.{both}
 use Rattle.protocol.proofs.Theorems.{plain-run}
 
@@ -94,11 +94,11 @@ pub record Kept (rows n : ℕ) (room : Room) (o : Result Outcome) : Type 0 where
   pub sides : (old : List ℕ) → length old ≡ room .sides → length (sidesAtExit rows o old) ≡ length old
   pub values : (old : List Float) → length old ≡ room .values → length (valuesAtExit rows n o old) ≡ length old
 
-module _ (n : ℕ) (advance : Propagator) (laws : KernelLaws n advance) (own : Option ℕ) (w : Window) (ss : List Float) (es : List Event) (a : List Float) (room : Room)
+module _ (n : ℕ) (advance : Propagator) {Refuses : Conditions} (laws : KernelLaws n advance Refuses) (own : Option ℕ) (w : Window) (ss : List Float) (es : List Event) (a : List Float) (room : Room)
     (start-fits : T (fits binary64 (w .start))) (end-fits : T (fits binary64 (w .end))) (samples-fit : T (all (fits binary64) ss)) (times-fit : T (all (λ (e : Event). fits binary64 (time e)) es)) where
   -- where no test refuses, what is claimed of plain runs holds
-  pub passes-run : Passes own n w ss es a room → PlainRun advance n w ss es a
-  passes-run p = plain-run n advance laws w ss es (record { start-fits = start-fits; end-fits = end-fits; samples-fit = samples-fit; times-fit = times-fit; passes = p .prepared }) a (p .amounts)
+  pub passes-run : Passes own n w ss es a room → PlainRun advance Refuses n w ss es a
+  passes-run p = plain-run n advance Refuses laws w ss es (record { start-fits = start-fits; end-fits = end-fits; samples-fit = samples-fit; times-fit = times-fit; passes = p .prepared }) a (p .amounts)
 
   began-kept : Passes own n w ss es a room → Kept (reckoned ss es) n room (done (runOf advance n w ss es a))
   began-kept p = record {
@@ -116,7 +116,7 @@ module _ (n : ℕ) (advance : Propagator) (laws : KernelLaws n advance) (own : O
       rs : List Row
       rs = rowsLeft o
 
-      run : PlainRun advance n w ss es a
+      run : PlainRun advance Refuses n w ss es a
       run = passes-run p
 
       rows : length rs ≤ R

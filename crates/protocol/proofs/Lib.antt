@@ -9,6 +9,7 @@ pub mod LastRow
 pub mod ReadingCounts
 pub mod Independence
 pub mod Conditions
+pub mod Budgets
 pub mod Theorems
 pub mod EntryLaws
 pub mod Bench

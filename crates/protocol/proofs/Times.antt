@@ -15,17 +15,17 @@ use lib.Ieee.Scale.{finite}
 use Rattle.binary64.specs.Doubles.{plusZero, nonnegative, positive, totalLe}
 use Rattle.binary64.specs.Sort.{sortBy, firstsFrom, firsts}
 use Rattle.binary64.proofs.Units.{spot, Good}
-use Rattle.binary64.proofs.Order.{lt→spot, le→spot, spot→le, not-nan, Real, real-good}
+use Rattle.binary64.proofs.Order.{lt→spot, le→spot, eq→spot, spot→le, not-nan, Real, real-good}
 use Rattle.binary64.proofs.Differences.{sub-finite, sub-positive}
 use Rattle.binary64.proofs.Signs.{atLeastZero, div-atLeastZero}
 use Rattle.binary64.proofs.Sorted.{All, Chain, sort-all, strict-times}
 use Rattle.protocol.specs.declared.Event.{Event}
 use Rattle.protocol.specs.declared.Event.the-variants.{Bolus, Infusion, Reset}
 use Rattle.protocol.specs.declared.Window.{Window}
-use Rattle.binary64.specs.Lists.{any, all, gather}
+use Rattle.binary64.specs.Lists.{all, gather}
 use Rattle.protocol.specs.First.{unless, firstOf}
 use Rattle.protocol.specs.Events.{time, target, instants, sortedUnique, boundaryTimes, boundaries}
-use Rattle.protocol.specs.Prepare.{windowPasses, within, sameReset, eventPasses, eventsPass, reckoned, prepare}
+use Rattle.protocol.specs.Prepare.{windowPasses, within, eventPasses, eventsPass, reckoned, prepare}
 use Rattle.protocol.specs.Schedule.{rateOf}
 use Rattle.protocol.specs.PlainRun.{Prepared, Cycle}
 use Rattle.protocol.proofs.ListLaws.{both, and-T, all→All, All-map, All-append, All-both}
@@ -106,7 +106,7 @@ module _ (n : ℕ) (w : Window) (start-real : Real binary64 (w .start)) (end-rea
       let g = inner w t h (p .0) in
       ((g, (behind-inner w t x start-real end-real g (add-fits binary64 t d) (v .0) (y .0), tt)), div-atLeastZero binary64 a d (r .0) (u .0))
   fine seen (Reset t i v o c) h k =
-      let p = both (within w t) (ltb i n && (finite v && not (any (sameReset t o) seen))) k in
+      let p = both (within w t) _ k in
       ((inner w t h (p .0), tt), tt)
 
   fines : (seen es : List Event) → All (λ (e : Event). T (fits binary64 (time e))) es → T (eventsPass n w seen es) → All (Fine w) es
@@ -191,17 +191,23 @@ module _ {w : Window} {ss : List Float} {es : List Event} (k : Passed w ss es) w
   pub lasts : (t u : Float) → Cycle w → Inner w t → Inner w u → T (lt t u) → T (finite (sub binary64 u t))
   lasts t u c p q h = sub-finite binary64 (w .start) t u (w .end) (k .start-in .real) (p .real) (q .real) (k .end-in .real) (p .from-start) h (q .to-end) c
 
-pub duration : {w : Window} (t u : Float) → Inner w t → Inner w u → T (lt t u) → T (finite (sub binary64 u t)) → T (nonnegative (sub binary64 u t))
-unfolding fits isNan
-duration t u p q h f =
-    and-T (finite (sub binary64 u t)) (not (lt (sub binary64 u t) plusZero)) f
-    (not-T (lt (sub binary64 u t) plusZero) no)
-  where
-    d : Good binary64 (sub binary64 u t)
-    d = (sub-fits binary64 u t, not-nan (sub binary64 u t) f)
+-- an advance that goes forward: its duration is above 0, so it passes where it is finite
+module _ {w : Window} (t u : Float) (p : Inner w t) (q : Inner w u) (h : T (lt t u)) (f : T (finite (sub binary64 u t))) where
+  d : Good binary64 (sub binary64 u t)
+  unfolding fits isNan
+  d = (sub-fits binary64 u t, not-nan (sub binary64 u t) f)
 
-    above : spot binary64 plusZero < spot binary64 (sub binary64 u t)
-    above = lt→spot binary64 plusZero (sub binary64 u t) (tt, tt) d (sub-positive binary64 u t (q .real) (p .real) h)
+  zero-good : Good binary64 plusZero
+  unfolding fits isNan
+  zero-good = (tt, tt)
 
-    no : T (lt (sub binary64 u t) plusZero) → ⊥
-    no l = let b : spot binary64 (sub binary64 u t) < spot binary64 plusZero = lt→spot binary64 (sub binary64 u t) plusZero d (tt, tt) l in omega (arith, above)
+  above : spot binary64 plusZero < spot binary64 (sub binary64 u t)
+  above = lt→spot binary64 plusZero (sub binary64 u t) zero-good d (sub-positive binary64 u t (q .real) (p .real) h)
+
+  pub duration : T (nonnegative (sub binary64 u t))
+  duration =
+      and-T (finite (sub binary64 u t)) (not (lt (sub binary64 u t) plusZero)) f
+      (not-T (lt (sub binary64 u t) plusZero) (λ l. omega (arith, above, lt→spot binary64 (sub binary64 u t) plusZero d zero-good l)))
+
+  pub not-zero : T (not (eq (sub binary64 u t) plusZero))
+  not-zero = not-T (eq (sub binary64 u t) plusZero) (λ e. omega (arith, above, eq→spot binary64 (sub binary64 u t) plusZero d zero-good e))

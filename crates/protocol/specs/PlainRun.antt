@@ -1,6 +1,6 @@
 -- Demand 3's claim about a plain run, over all kernels with the laws below, windows, lists that the preparation passes, and amounts that are finite and at least 0. A claim, no proof.
 use mathlib.Core.Path.{_≡_}
-use Prim.Native.Nat.{ℕ, _+_, _-_, _≤_, _<_}
+use Prim.Native.Nat.{ℕ, suc, _+_, _-_, _≤_, _<_}
 use mathlib.Core.Bool.{Bool, not, _&&_}
 use mathlib.Core.List.{List, [], _∷_, _++_}
 use mathlib.Core.Option.{none}
@@ -27,12 +27,18 @@ oneOf c cs = any (eqb c) cs
 abbrev pub argumentsPass : ℕ → List Float → List Float → Float → Bool
 argumentsPass n a r d = amountsPass n a && (amountsPass n r && nonnegative d)
 
--- the kernel's advance, of n states
-pub record KernelLaws (n : ℕ) (advance : Propagator) : Type 0 where
+-- of each number its condition, on the amounts, the rates and the duration of an advance
+abbrev pub Conditions : Type 1
+Conditions = ℕ → List Float → List Float → Float → Type 0
+
+-- the kernel's advance, of n states, and when it refuses
+pub record KernelLaws (n : ℕ) (advance : Propagator) (Refuses : Conditions) : Type 0 where
   -- 3 exactly where an argument does not pass
   pub three : (a r : List Float) (d : Float) → (advance a r d ≡ refused 3) ↔ T (not (argumentsPass n a r d))
   pub numbers : (a r : List Float) (d : Float) (c : ℕ) → advance a r d ≡ refused c → T (oneOf c (3 ∷ 20 ∷ 21 ∷ 22 ∷ []))
   pub amounts : (a r : List Float) (d : Float) (v : List Float) → advance a r d ≡ done v → T (amountsPass n v)
+  -- where they pass and the duration is not 0, a number exactly where its condition holds
+  pub conditions : (a r : List Float) (d : Float) → T (argumentsPass n a r d) → T (not (eq d plusZero)) → (c : ℕ) → (advance a r d ≡ refused c) ↔ Refuses c a r d
 
 -- the times are doubles, and no test of the preparation refuses
 pub record Prepared (n : ℕ) (w : Window) (ss : List Float) (es : List Event) : Type 0 where
@@ -53,29 +59,29 @@ pub data Advances : Step → Float → List Float → Float → Type 0 where
   to-boundary : {t : Float} {r : List Float} {u : Float} → Advances (arrive t r u) t r u
 
 -- the condition of a number, met with a time by the step x at the state s
-pub data Meets (advance : Propagator) (budget : ℕ) : ℕ → Float → Step → State → Type 0 where
+pub data Meets (Refuses : Conditions) (budget : ℕ) : ℕ → Float → Step → State → Type 0 where
   -- 30: the budget is spent; the row's time
-  spent : {t : Float} {r : List Float} {u : Float} {x : Step} {s : State} → Advances x t r u → budget ≤ length (s .advances) → Meets advance budget 30 u x s
+  spent : {t : Float} {r : List Float} {u : Float} {x : Step} {s : State} → Advances x t r u → budget ≤ length (s .advances) → Meets Refuses budget 30 u x s
   -- 3: u − t overflows; the row's time
-  overflows : {t : Float} {r : List Float} {u : Float} {x : Step} {s : State} → Advances x t r u → length (s .advances) < budget → T (not (finite (sub binary64 u t))) → Meets advance budget 3 u x s
-  -- 20, 21, 22: the kernel's advance refuses with the number; the row's time
-  refuses : {t : Float} {r : List Float} {u : Float} {c : ℕ} {x : Step} {s : State} → Advances x t r u → length (s .advances) < budget
-      → T (oneOf c (20 ∷ 21 ∷ 22 ∷ [])) → advance (s .amounts) r (sub binary64 u t) ≡ refused c → Meets advance budget c u x s
+  overflows : {t : Float} {r : List Float} {u : Float} {x : Step} {s : State} → Advances x t r u → length (s .advances) < budget → T (not (finite (sub binary64 u t))) → Meets Refuses budget 3 u x s
+  -- 20, 21, 22: u − t is finite, and over it the number's condition holds; the row's time
+  refuses : {t : Float} {r : List Float} {u : Float} {c : ℕ} {x : Step} {s : State} → Advances x t r u → length (s .advances) < budget → T (finite (sub binary64 u t))
+      → T (oneOf c (20 ∷ 21 ∷ 22 ∷ [])) → Refuses c (s .amounts) r (sub binary64 u t) → Meets Refuses budget c u x s
   -- 31: an amount is not finite or below 0, at the check or behind a reset or a bolus; the boundary's time
-  state : {t : Float} {s : State} → T (not (all nonnegative (s .amounts))) → Meets advance budget 31 t (check t) s
-  dose : {t : Float} {e : Event} {s : State} → T (not (all nonnegative (applied e (s .amounts)))) → Meets advance budget 31 t (apply t e) s
+  state : {t : Float} {s : State} → T (not (all nonnegative (s .amounts))) → Meets Refuses budget 31 t (check t) s
+  dose : {t : Float} {e : Event} {s : State} → T (not (all nonnegative (applied e (s .amounts)))) → Meets Refuses budget 31 t (apply t e) s
   -- 32: a summed rate is not finite; +0
-  summed-rates : {r : List Float} {s : State} → T (not (all finite r)) → Meets advance budget 32 plusZero (rates r) s
+  summed-rates : {r : List Float} {s : State} → T (not (all finite r)) → Meets Refuses budget 32 plusZero (rates r) s
 
 -- the schedule xs from the state s: the steps ahead go on, and the next one meets the condition of the number c with the time t
-pub record FirstMet (advance : Propagator) (budget : ℕ) (s : State) (xs : List Step) (c : ℕ) (t : Float) : Type 0 where
+pub record FirstMet (advance : Propagator) (Refuses : Conditions) (budget : ℕ) (s : State) (xs : List Step) (c : ℕ) (t : Float) : Type 0 where
   pub ahead : List Step
   pub step : Step
   pub rest : List Step
   pub parts : xs ≡ ahead ++ (step ∷ rest)
   pub left : State
   pub ran : run advance budget s ahead ≡ go left
-  pub meets : Meets advance budget c t step left
+  pub meets : Meets Refuses budget c t step left
 
 -- ---- what a run leaves
 abbrev pub rowsLeft : Outcome → List Row
@@ -111,21 +117,29 @@ pub record Reached (n : ℕ) (w : Window) (ss : List Float) (es : List Event) (z
   -- to each boundary behind the first, and to each distinct sample that stands at no boundary
   pub count : length (z .advances) ≡ length (boundaries w es) - 1 + length (between w ss es)
 
-pub record PlainRun (advance : Propagator) (n : ℕ) (w : Window) (ss : List Float) (es : List Event) (a : List Float) : Type 0 where
+-- the advances of a run with this number: at most the budget, unless the number is 30; the budget and one then
+pub record Budgeted (budget number advances : ℕ) : Type 0 where
+  pub within : (number ≡ 30 → ⊥) → advances ≤ budget
+  pub beyond : number ≡ 30 → advances ≡ suc budget
+
+pub record PlainRun (advance : Propagator) (Refuses : Conditions) (n : ℕ) (w : Window) (ss : List Float) (es : List Event) (a : List Float) : Type 0 where
   -- within the reckoned rows, each of n amounts that are finite and at least 0, wherever the run ends
   pub within : length (rowsLeft (runOf advance n w ss es a)) ≤ reckoned ss es
   pub rows : T (all (λ (r : Row). amountsPass n (r .amounts)) (rowsLeft (runOf advance n w ss es a)))
   -- where it goes on through the whole schedule it comes to the post row at the end
   pub reached : (z : State) → runOf advance n w ss es a ≡ go z → Reached n w ss es z
   -- it stops with a number and a time exactly where the first step that refuses meets the condition of the number with that time
-  pub exact : (c : ℕ) (t : Float) → ((z : State) × (runOf advance n w ss es a ≡ stop c t z)) ↔ FirstMet advance (w .propagations) (begin a) (schedule n w ss es) c t
+  pub exact : (c : ℕ) (t : Float) → ((z : State) × (runOf advance n w ss es a ≡ stop c t z)) ↔ FirstMet advance Refuses (w .propagations) (begin a) (schedule n w ss es) c t
   -- the advances are those of the steps up to the refusing one, that one too
-  pub advances : (c : ℕ) (t : Float) (z : State) → runOf advance n w ss es a ≡ stop c t z → (f : FirstMet advance (w .propagations) (begin a) (schedule n w ss es) c t)
+  pub advances : (c : ℕ) (t : Float) (z : State) → runOf advance n w ss es a ≡ stop c t z → (f : FirstMet advance Refuses (w .propagations) (begin a) (schedule n w ss es) c t)
       → z .advances ≡ gather advancesBy (f .ahead ++ (f .step ∷ []))
+  -- at most the budget, unless it stops with 30; the budget and one then
+  pub ended : (z : State) → runOf advance n w ss es a ≡ go z → length (z .advances) ≤ w .propagations
+  pub budgeted : (c : ℕ) (t : Float) (z : State) → runOf advance n w ss es a ≡ stop c t z → Budgeted (w .propagations) c (length (z .advances))
   -- in a cycle it reaches the end, or stops by 20, 21, 22, 30, 31 or 32, and never by 3
   pub cycle : Cycle w → ((z : State) × (runOf advance n w ss es a ≡ go z))
       ⊎ ((c : ℕ) × (t : Float) × (z : State) × (runOf advance n w ss es a ≡ stop c t z) × T (oneOf c (20 ∷ 21 ∷ 22 ∷ 30 ∷ 31 ∷ 32 ∷ [])))
 
-abbrev pub EveryPlainRun : Type 0
-EveryPlainRun = (n : ℕ) (advance : Propagator) → KernelLaws n advance → (w : Window) (ss : List Float) (es : List Event) → Prepared n w ss es
-    → (a : List Float) → T (amountsPass n a) → PlainRun advance n w ss es a
+abbrev pub EveryPlainRun : Type 1
+EveryPlainRun = (n : ℕ) (advance : Propagator) (Refuses : Conditions) → KernelLaws n advance Refuses → (w : Window) (ss : List Float) (es : List Event) → Prepared n w ss es
+    → (a : List Float) → T (amountsPass n a) → PlainRun advance Refuses n w ss es a

@@ -3,7 +3,7 @@ use mathlib.Core.Path.{_≡_, refl, sym, ap, _∙_, subst}
 use mathlib.Core.Bool.{Bool, true, false, _&&_}
 use mathlib.Core.List.{List, [], _∷_, _++_}
 use mathlib.Core.Option.{Option, some, none}
-use Prim.Native.Nat.{ℕ, zero, suc, _+_, _*_, _≤_, zero-le}
+use Prim.Native.Nat.{ℕ, _+_, _*_, _≤_, zero-le}
 use native.Mathlib.Nat.{zero-mul}
 use native.Mathlib.Omega.{arith}
 use lib.Dec.{T, leb}
@@ -21,13 +21,13 @@ use Rattle.protocol.specs.declared.Window.{Window}
 use Rattle.protocol.specs.First as F
 use Rattle.protocol.specs.Events.{time}
 use Rattle.protocol.specs.Prepare.{windowPasses, within, eventsPass, reckoned, prepare}
-use Rattle.protocol.specs.Schedule.{Step}
-use Rattle.protocol.specs.Execute.{Propagator, Pre, Row, State, Outcome, go, stop, runOf}
+use Rattle.protocol.specs.Execute.{Pre, Row, State, Outcome, go, stop, runOf}
 use Rattle.protocol.specs.Entry.{mostEvents, mostSamples, Room, roomFor, ahead, simulate, Reply, replyOf, timesAtExit, sidesAtExit, valuesAtExit}
-use Rattle.protocol.specs.PlainRun.{oneOf, Meets, spent, overflows, refuses, state, dose, summed-rates, Prepared, PlainRun, rowsLeft}
+use Rattle.protocol.specs.PlainRun.{Prepared, PlainRun, rowsLeft}
+use Rattle.protocol.proofs.Conditions.{meets-above}
 use Rattle.protocol.proofs.EntryLaws.{Passes, n-each, ahead-none, simulate-runs, simulate-refuses}
 use Rattle.preparation.specs.Preparation.{ownNumber}
-use Rattle.prepared_run.specs.KernelRun.{propagatorOf}
+use Rattle.prepared_run.specs.KernelRun.{propagatorOf, refusalOf}
 use Rattle.run_report.specs.Replies.{reported}
 use Rattle.run_report.specs.declared.Report.{Report}
 use Rattle.prepared_run.proofs.KernelRuns.{kernel-run}
@@ -98,19 +98,6 @@ module _ (k : LinearPk) (w : Window) (ss : List Float) (es : List Event) (a : Li
           first-positive (F.unless (leb (length es) (w .events)) 13) (F.unless (windowPasses w) 10) (F.unless (all (within w) ss) 11) (F.unless (eventsPass n w [] es) 12) (F.unless (leb (reckoned ss es * n) (w .outputs)) 14)
           (unless-positive (leb (length es) (w .events)) 13 (omega arith)) (unless-positive (windowPasses w) 10 (omega arith)) (unless-positive (all (within w) ss) 11 (omega arith)) (unless-positive (eventsPass n w [] es) 12 (omega arith)) (unless-positive (leb (reckoned ss es * n) (w .outputs)) 14 (omega arith))
 
--- the number of a condition
-meets-positive : {advance : Propagator} {budget c : ℕ} {t : Float} {x : Step} {s : State} → Meets advance budget c t x s → 1 ≤ c
-meets-positive (spent a l) = omega arith
-meets-positive (overflows a l f) = omega arith
-meets-positive (refuses a l h r) = on _ h
-  where
-    on : (c : ℕ) → T (oneOf c (20 ∷ 21 ∷ 22 ∷ [])) → 1 ≤ c
-    on zero h = absurd h
-    on (suc c) h = omega arith
-meets-positive (state f) = omega arith
-meets-positive (dose f) = omega arith
-meets-positive (summed-rates f) = omega arith
-
 -- ---- a text has bytes
 pub text-some : (sum : Float) (o : Result Outcome) → 1 ≤ length (outcomeText sum o)
 unfolding outcomeText headLine
@@ -158,14 +145,14 @@ module _ (k : LinearPk) (w a ss es : List ℕ) where
   unfolding runWith
   run-kept = on (ahead (ownNumber (sound k)) n (windowOf w) (doublesOf ss) (eventsOf es) (doublesOf a) (roomOf R n)) refl
     where
-      facts : Passes (ownNumber (sound k)) n (windowOf w) (doublesOf ss) (eventsOf es) (doublesOf a) (roomOf R n) → PlainRun (propagatorOf k) n (windowOf w) (doublesOf ss) (eventsOf es) (doublesOf a)
+      facts : Passes (ownNumber (sound k)) n (windowOf w) (doublesOf ss) (eventsOf es) (doublesOf a) (roomOf R n) → PlainRun (propagatorOf k) (refusalOf k) n (windowOf w) (doublesOf ss) (eventsOf es) (doublesOf a)
       facts p = kernel-run k (own-none k (p .kernel)) (windowOf w) (doublesOf ss) (eventsOf es) (prepared n w ss es (p .prepared)) (doublesOf a) (p .amounts)
 
       on : (o : Option ℕ) → ahead (ownNumber (sound k)) n (windowOf w) (doublesOf ss) (eventsOf es) (doublesOf a) (roomOf R n) ≡ o → Kept (simulate (propagatorOf k) (ownNumber (sound k)) n (windowOf w) (doublesOf ss) (eventsOf es) (doublesOf a) (roomOf R n))
       on none e =
           let f = facts (ahead-none (ownNumber (sound k)) n (windowOf w) (doublesOf ss) (eventsOf es) (doublesOf a) (roomOf R n) e) in
           subst Kept (sym (simulate-runs (propagatorOf k) (ownNumber (sound k)) n (windowOf w) (doublesOf ss) (eventsOf es) (doublesOf a) (roomOf R n) e))
-          (began-kept outcome (f .within) (f .rows) (λ (c : ℕ) (t : Float) (z : State) (q : outcome ≡ stop c t z). meets-positive (f .exact c t .0 (z, q) .meets)))
+          (began-kept outcome (f .within) (f .rows) (λ (c : ℕ) (t : Float) (z : State) (q : outcome ≡ stop c t z). meets-above (f .exact c t .0 (z, q) .meets)))
       on (some c) e =
           subst Kept (sym (simulate-refuses (propagatorOf k) (ownNumber (sound k)) n (windowOf w) (doublesOf ss) (eventsOf es) (doublesOf a) (roomOf R n) c e))
           (refused-kept c (subst Positive e (ahead-positive k (windowOf w) (doublesOf ss) (eventsOf es) (doublesOf a) (roomOf R n))))

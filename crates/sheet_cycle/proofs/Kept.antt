@@ -16,7 +16,7 @@ use Rattle.protocol.specs.declared.Event.{Event}
 use Rattle.protocol.specs.declared.Window.{Window}
 use Rattle.protocol.specs.Execute.{Propagator}
 use Rattle.protocol.specs.PlainRun.{oneOf}
-use Rattle.prepared_run.specs.KernelRun.{propagatorOf}
+use Rattle.prepared_run.specs.KernelRun.{propagatorOf, refusalOf}
 use Rattle.prepared_run.proofs.KernelRuns.{kernel-laws}
 use Rattle.layout.specs.Layout.{eventsOf}
 use Rattle.sheet_kernel.specs.Values.{windowOf}
@@ -69,7 +69,7 @@ steady-kept k w ss es h = on (closed (propagatorOf k) (stateCount k) (windowOf w
     n = stateCount k
 
     facts : ClosedCycle (propagatorOf k) (stateCount k) (windowOf w) (doublesOf ss) (eventsOf es) (toleranceOf w)
-    facts = closed-cycle (stateCount k) (propagatorOf k) (kernel-laws k h) (windowOf w) (doublesOf ss) (eventsOf es) (toleranceOf w) (record { start-fits = start-made w; end-fits = end-made w; times-fit = times-made es })
+    facts = closed-cycle (stateCount k) (propagatorOf k) (refusalOf k) (kernel-laws k h) (windowOf w) (doublesOf ss) (eventsOf es) (toleranceOf w) (record { start-fits = start-made w; end-fits = end-made w; times-fit = times-made es })
 
     on : (o : Timed Solved) → closed (propagatorOf k) (stateCount k) (windowOf w) (doublesOf ss) (eventsOf es) (toleranceOf w) true ≡ o → Kept (stateCount k) o
     on (stopped c t) e = among c (facts .numbers c t e)
