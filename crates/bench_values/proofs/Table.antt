@@ -38,5 +38,7 @@ bench-values = record {
   p8-more = refl;
   p9 = refl;
   p10 = refl;
+  p10-sum = refl;
   p11 = refl;
+  p11-apart = refl;
 }

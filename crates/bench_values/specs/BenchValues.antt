@@ -5,7 +5,7 @@ use mathlib.Core.List.{List, [], _∷_}
 use mathlib.Core.Option.{some, none}
 use Prim.Native.Nat.{ℕ, _^_, _+_, _-_}
 use lib.IntN.{pos, negsuc}
-use lib.Ieee.{Float, fin}
+use lib.Ieee.{Float, fin, binary64, add}
 use Rattle.binary64.specs.Doubles.{plusZero, minusZero, one, half}
 use Rattle.refusal.specs.Result.{Result, refused, done, andThen}
 use Rattle.matrix.specs.Matrix.{Matrix, table}
@@ -20,7 +20,7 @@ use Rattle.protocol.specs.declared.Event.{Event}
 use Rattle.protocol.specs.declared.Event.the-variants.{Bolus, Infusion, Reset}
 use Rattle.protocol.specs.declared.Window.{Window}
 use Rattle.prepared_run.specs.KernelRun.{propagatorOf}
-use Rattle.cycle.specs.Fold.{fold}
+use Rattle.cycle.specs.Fold.{period, fold}
 use Rattle.cycle.specs.Closed.{Timed, stopped, then, untimed, Solved, closed}
 
 -- 2, 3, 4, 5, 6, 8, 10, 16, 20
@@ -75,6 +75,10 @@ window start end = record { start = start; end = end; rtol = one; atol = one; pr
 abbrev pub folded : List Event → Result (List Event)
 folded es = fold 1 (window plusZero eight) [] es
 
+-- the cycle of P10
+abbrev pub rounding : Window
+rounding = window (fin true 9 (negsuc 54)) (fin false (2 ^ 53 - 1) (negsuc 52))
+
 -- a bolus of 1 at 8
 abbrev pub late : List Event
 late = Bolus eight 0 one ∷ []
@@ -120,6 +124,8 @@ pub record BenchValues : Type 0 where
   -- CL 0, V 1, no doses: 33
   pub p9 : closedBy (single plusZero) [] ≡ stopped 33 plusZero
   -- cycle −9·2^−55 to 1−2^−53, infusion at its start over 2: 12, as start + period rounds to 1
-  pub p10 : fold 1 (window (fin true 9 (negsuc 54)) (fin false (2 ^ 53 - 1) (negsuc 52))) [] (Infusion (fin true 9 (negsuc 54)) 0 one two ∷ []) ≡ refused 12
-  -- resets at −0 and +0, order 1 both: 12
+  pub p10 : fold 1 rounding [] (Infusion (rounding .start) 0 one two ∷ []) ≡ refused 12
+  pub p10-sum : add binary64 (rounding .start) (period rounding) ≡ one
+  -- resets at −0 and +0, order 1 both: 12, on one target and on two
   pub p11 : prepare 1 (window plusZero one) [] (Reset minusZero 0 one 1 false ∷ Reset plusZero 0 one 1 false ∷ []) ≡ some 12
+  pub p11-apart : prepare 2 (window plusZero one) [] (Reset minusZero 0 one 1 false ∷ Reset plusZero 1 one 1 false ∷ []) ≡ some 12
