@@ -2,9 +2,9 @@
 use linear_pk::LinearPk;
 use matrix::STATES;
 ghost use mathlib.Core.Path.{_≡_};
-ghost use mathlib.Core.List.{[], _∷_};
+ghost use mathlib.Core.List.{[], _∷_, _++_};
 ghost use Prim.Native.Nat.{ℕ, _+_, _*_, _≤_, _<_};
-ghost use lib.ListN.{length, take};
+ghost use lib.ListN.{length, take, drop};
 ghost use Rattle.protocol.specs.Schedule.{arrive as arrives};
 ghost use Rattle.rows.specs.Written.{Cells, put};
 ghost use Rattle.rows.specs.Told.{kernelAdvance, movedOf, Ran};
@@ -27,6 +27,18 @@ pub struct Move {
     pub amounts: [f64; STATES],
 }
 
+// The row writer: a row's amounts from the front of the part of the values that is lent to it; the cells behind them stay.
+fn row_writer(amounts: &[f64], part: &mut [f64])
+    requires { ⌜ length (now amounts) ≤ length (now part) ⌝ }
+    ensures { λ _. ⌜ now (part .exit) ≡ now (amounts .entry) ++ drop (length (now (amounts .entry))) (now (part .entry)) ⌝ }
+{
+    let mut i = 0usize;
+    while i < amounts.len() {
+        part[i] = amounts[i];
+        i += 1;
+    }
+}
+
 // A row into the three slices: its time and its side's code at place row, its n amounts from place row × n on.
 pub fn put_row(
     times: &mut [f64],
@@ -46,7 +58,7 @@ pub fn put_row(
     sides[row] = side;
     let at = row * n;
     let state = &amounts[..n];
-    interval::lay(state, &mut values[at..]);
+    row_writer(state, &mut values[at..]);
 }
 
 // The kernel's advance over n states.

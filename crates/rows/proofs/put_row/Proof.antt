@@ -12,8 +12,8 @@ use Rattle.rows.proofs.put_row.Tie as tie
 slice-aggregate-state : tie.Need-slice-aggregate-state
 slice-aggregate-state c = sym (length-take-le (c .before .before .before .before .args .n) (c .before .before .before .before .args .t8) (omega arith))
 
-lay-requires : tie.Need-lay-requires
-lay-requires c κs =
+row-writer-requires : tie.Need-row-writer-requires
+row-writer-requires c κs =
     let g = c .before .before .before .before .before .args in
     let at = g .row * g .n in
     let l = length-drop at (g .values .now) in
@@ -24,7 +24,7 @@ returns c =
     let g = c .before .before .before .before .before .before .before .before .args in (
       put-one (g .row) (g .time) (g .times .now),
       put-one (g .row) (g .side) (g .sides .now),
-      put-lent (g .row * g .n) (take (g .n) (g .t8)) (g .values .now) _ (omega (arith, length-take-le (g .n) (g .t8) (omega arith))) (c .before .before .lay .ensures),
+      put-lent (g .row * g .n) (take (g .n) (g .t8)) (g .values .now) _ (omega (arith, length-take-le (g .n) (g .t8) (omega arith))) (c .before .before .row-writer .ensures),
     )
 
 pub put-row-spec : {M : Type 1} → statement M
@@ -32,5 +32,5 @@ put-row-spec =
     tie.close
     (tie.spec
     (λ c. search needs) (λ c. search needs) (λ c. search needs) (λ c. search needs) (λ c. search needs) slice-aggregate-state
-    (λ c. search needs) (λ c. search needs) (λ c. search needs) (λ c. search needs) lay-requires (λ c. search needs)
+    (λ c. search needs) (λ c. search needs) (λ c. search needs) (λ c. search needs) row-writer-requires (λ c. search needs)
     (λ c. search needs) (λ c. search needs) returns)
