@@ -8,7 +8,6 @@ use refusal::Refusal;
 use refusal::Reply;
 use value_tests::Test;
 ghost use mathlib.Core.Path.{_≡_};
-ghost use mathlib.Core.Bool.{true};
 ghost use Prim.Native.Nat.{_≤_};
 ghost use lib.ListN.{take};
 ghost use Rattle.events.specs.Packed.{packed};
@@ -17,22 +16,20 @@ ghost use Rattle.cycle.specs.Closed.{got, then, greatestTo, residualsOf, accept
 ghost use Rattle.cycle_run.specs.Ends.{Runs};
 ghost use Rattle.acceptance.specs.Acceptance.{acceptance};
 
-// A candidate refused by a number at a time, or its residuals and the greatest scaled one.
+// A candidate refused at a time, or its residuals and the greatest scaled one.
 pub struct Acceptance {
-    pub stopped: bool,
-    pub number: u64,
+    pub reply: Reply,
     pub time: f64,
     pub residuals: [f64; STATES],
     pub greatest: f64,
 }
 
-fn not_accepted(number: u64, time: f64) -> Acceptance
-    ensures { λ r. ⌜ (r .stopped ≡ true) × (r .number ≡ number) × (r .time ≡ time) ⌝ }
+fn not_accepted(refusal: Refusal, time: f64) -> Acceptance
+    ensures { λ r. ⌜ (r .reply ≡ Reply.Refused refusal) × (r .time ≡ time) ⌝ }
 {
     let residuals = [0.0f64; STATES];
     Acceptance {
-        stopped: true,
-        number,
+        reply: Reply::Refused(refusal),
         time,
         residuals,
         greatest: 0.0,
@@ -53,12 +50,11 @@ fn judged(
     let scaled = residual::greatest(n, tolerance, candidate, end);
     let reply = scaled.reply;
     match reply {
-        Reply::Refused(refusal) => not_accepted(refusal::number(Reply::Refused(refusal)), 0.0),
+        Reply::Refused(refusal) => not_accepted(refusal, 0.0),
         Reply::Done => {
             let residuals = residual::residuals(n, candidate, end);
             Acceptance {
-                stopped: false,
-                number: 0,
+                reply: Reply::Done,
                 time: 0.0,
                 residuals,
                 greatest: scaled.greatest,
@@ -82,12 +78,15 @@ pub fn accepted(
     ensures { λ r. ⌜ acceptance n candidate r ≡ acceptedOf (propagatorOf kernel) n window tolerance (packed (now (reals .entry)) (now (words .entry)) count) (take n candidate) ⌝ }
 {
     if !value_tests::all_pass(Test::Nonnegative, &candidate[..n]) {
-        return not_accepted(refusal::number(Reply::Refused(Refusal::Candidate)), 0.0);
+        return not_accepted(Refusal::Candidate, 0.0);
     }
     let end = cycle_run::last_of(kernel, n, candidate, window, reals, words, count);
-    if end.stopped {
-        return not_accepted(end.number, end.time);
+    let reply = end.reply;
+    match reply {
+        Reply::Refused(refusal) => not_accepted(refusal, end.time),
+        Reply::Done => {
+            let amounts = end.amounts;
+            judged(n, tolerance, candidate, amounts)
+        }
     }
-    let amounts = end.amounts;
-    judged(n, tolerance, candidate, amounts)
 }

@@ -8,11 +8,13 @@ use lib.Ieee.{Float}
 use lib.Ieee.Scale.{finite}
 use Rattle.binary64.specs.Doubles.{plusZero}
 use Rattle.binary64.specs.Lists.{all}
+use Rattle.refusal.specs.declared.Refusal.the-variants as R
+use Rattle.refusal.specs.declared.Reply.the-variants.{Refused}
 use Rattle.protocol.specs.Events.{inside}
 use Rattle.protocol.specs.Schedule.{rates, reading, arrive, onInterval}
 use Rattle.protocol.specs.Execute.{Propagator}
 use Rattle.rows.specs.Written.{Cells}
-use Rattle.rows.specs.Told.{Ran, Fits}
+use Rattle.rows.specs.Told.{isRefused, Ran, Fits}
 use Rattle.rows.specs.declared.Progress.{Progress}
 use Rattle.rows.proofs.Parts.{fresh, fits-first, fits-then, fits-afresh, ran-stops, ran-then, ran-afresh}
 use Rattle.rows.proofs.Steps.{rates-refused, rates-pass}
@@ -20,7 +22,7 @@ use Rattle.rows.proofs.Steps.{rates-refused, rates-pass}
 module _ (advance : Propagator) (n : ℕ) (start : Progress) (t : Float) (r : List Float) (u : Float) (ss : List Float) (c : Cells) where
   pub interval-refused :
       all finite r ≡ false
-      → Ran advance n start (onInterval t r u ss) c (record { stopped = true; number = 32; time = plusZero; amounts = start .amounts; left = start .left; made = start .made; rows = start .rows }) c
+      → Ran advance n start (onInterval t r u ss) c (record { reply = Refused R.SummedRates; time = plusZero; amounts = start .amounts; left = start .left; made = start .made; rows = start .rows }) c
   unfolding onInterval
   interval-refused e = ran-stops (map (reading t r) (inside t u ss) ++ (arrive t r u ∷ [])) (rates-refused start c r e) refl
 
@@ -36,7 +38,7 @@ module _ (advance : Propagator) (n : ℕ) (start : Progress) (t : Float) (r : Li
     interval-fits f = fits-afresh start (fits-first (map (reading t r) (inside t u ss)) (arrive t r u ∷ []) (both-fit f))
 
     module _ {p : Progress} {d : Cells} (h : Ran advance n start (map (reading t r) (inside t u ss)) c p d) where
-      pub interval-stops : p .stopped ≡ true → Ran advance n start (onInterval t r u ss) c p d
+      pub interval-stops : isRefused (p .reply) ≡ true → Ran advance n start (onInterval t r u ss) c p d
       unfolding onInterval
       interval-stops s = ran-then passes refl (ran-stops (arrive t r u ∷ []) (ran-afresh h) s)
 
@@ -45,6 +47,6 @@ module _ (advance : Propagator) (n : ℕ) (start : Progress) (t : Float) (r : Li
           let g = fits-then (map (reading t r) (inside t u ss)) (arrive t r u ∷ []) (both-fit f) (ran-afresh h) in
           omega (arith, g .few)
 
-      pub interval-arrives : {q : Progress} → p .stopped ≡ false → Ran advance n p (arrive t r u ∷ []) d q d → Ran advance n start (onInterval t r u ss) c q d
+      pub interval-arrives : {q : Progress} → isRefused (p .reply) ≡ false → Ran advance n p (arrive t r u ∷ []) d q d → Ran advance n start (onInterval t r u ss) c q d
       unfolding onInterval
       interval-arrives s g = ran-then passes refl (ran-then (ran-afresh h) s g)

@@ -13,7 +13,7 @@ use Rattle.protocol.specs.Events.{inside}
 use Rattle.protocol.specs.Schedule.{Step, reading}
 use Rattle.protocol.specs.Execute.{Propagator}
 use Rattle.rows.specs.Written.{Cells}
-use Rattle.rows.specs.Told.{Ran, Fits}
+use Rattle.rows.specs.Told.{isRefused, Ran, Fits}
 use Rattle.rows.specs.declared.Progress.{Progress}
 use Rattle.rows.proofs.Parts.{fresh, ran-nothing, ran-then, ran-stops, fits-first, fits-then}
 
@@ -59,7 +59,7 @@ module _ (t : Float) (r : List Float) (u : Float) where
 -- k samples are through
 pub record Through (advance : Propagator) (n : ℕ) (start : Progress) (t : Float) (r : List Float) (u : Float) (ss : List Float) (old : Cells) (p : Progress) (k : ℕ) (c : Cells) : Type 0 where
   pub below : k ≤ length ss
-  pub going : p .stopped ≡ false
+  pub going : isRefused (p .reply) ≡ false
   pub ran : Ran advance n start (readsTo t r u ss k) old p c
 
 module _ {advance : Propagator} {n : ℕ} {t : Float} {r : List Float} {u : Float} {ss : List Float} {old : Cells} where
@@ -98,8 +98,8 @@ module _ {advance : Propagator} {n : ℕ} {t : Float} {r : List Float} {u : Floa
           joined : Ran advance n start (readsTo t r u ss k ++ reads t r u (getD ss k nan ∷ [])) old q d
           joined = subst (λ (x : List Step). Ran advance n start (readsTo t r u ss k ++ x) old q d) one (ran-then (h .ran) (h .going) g)
 
-          pub through-stops : q .stopped ≡ true → Ran advance n start (map (reading t r) (inside t u ss)) old q d
+          pub through-stops : isRefused (q .reply) ≡ true → Ran advance n start (map (reading t r) (inside t u ss)) old q d
           through-stops s = subst (λ (x : List Step). Ran advance n start x old q d) (sym (reads-whole t r u ss k l)) (ran-stops (reads t r u (drop (k + 1) ss)) joined s)
 
-          pub through-more : q .stopped ≡ false → Through advance n start t r u ss old q (k + 1) d
+          pub through-more : isRefused (q .reply) ≡ false → Through advance n start t r u ss old q (k + 1) d
           through-more s = record { below = omega arith; going = s; ran = subst (λ (x : List Step). Ran advance n start x old q d) (sym (reads-more t r u ss k l)) joined }

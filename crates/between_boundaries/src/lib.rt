@@ -1,6 +1,8 @@
 // From a boundary to the next: the readings strictly inside, and the arrival.
 use linear_pk::LinearPk;
 use matrix::STATES;
+use refusal::Refusal;
+use refusal::Reply;
 use rows::Progress;
 use value_tests::Test;
 ghost use mathlib.Core.Path.{_≡_};
@@ -32,8 +34,7 @@ fn read_all(
 {
     let amounts = start.amounts;
     let mut p = Progress {
-        stopped: false,
-        number: 0,
+        reply: Reply::Done,
         time: 0.0,
         amounts: amounts,
         left: start.left,
@@ -46,7 +47,7 @@ fn read_all(
         if t < s {
             if s < u {
                 let q = reading::read(kernel, n, t, rates, s, p, times, sides, values);
-                if q.stopped {
+                if q.stopped() {
                     return q;
                 }
                 p = q;
@@ -84,8 +85,7 @@ pub fn on_interval(
     if !all_finite(summed) {
         let amounts = start.amounts;
         return Progress {
-            stopped: true,
-            number: 32,
+            reply: Reply::Refused(Refusal::SummedRates),
             time: 0.0,
             amounts: amounts,
             left: start.left,
@@ -94,7 +94,7 @@ pub fn on_interval(
         };
     }
     let p = read_all(kernel, n, t, rates, u, samples, start, times, sides, values);
-    if p.stopped {
+    if p.stopped() {
         return p;
     }
     rows::arrive(kernel, n, t, rates, u, p)

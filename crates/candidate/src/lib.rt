@@ -4,9 +4,9 @@ use events::EVENTS;
 use linear_pk::LinearPk;
 use matrix::STATES;
 use protocol::Window;
+use refusal::Refusal;
 use refusal::Reply;
 ghost use mathlib.Core.Path.{_≡_};
-ghost use mathlib.Core.Bool.{true};
 ghost use Prim.Native.Nat.{_≤_};
 ghost use lib.ListN.{length, take};
 ghost use Rattle.events.specs.Packed.{packed};
@@ -16,13 +16,12 @@ ghost use Rattle.cycle.specs.Closed.{untimed, homogeneous, solution as solution
 ghost use Rattle.cycle_run.specs.Ends.{Runs, cycleEnd};
 ghost use Rattle.unit_columns.specs.Columns.{columnsOf};
 
-fn not_solved(number: u64, time: f64) -> CycleEnd
-    ensures { λ r. ⌜ (r .stopped ≡ true) × (r .number ≡ number) × (r .time ≡ time) ⌝ }
+fn not_solved(refusal: Refusal, time: f64) -> CycleEnd
+    ensures { λ r. ⌜ (r .reply ≡ Reply.Refused refusal) × (r .time ≡ time) ⌝ }
 {
     let amounts = [0.0f64; STATES];
     CycleEnd {
-        stopped: true,
-        number,
+        reply: Reply::Refused(refusal),
         time,
         amounts,
     }
@@ -36,12 +35,11 @@ fn eliminated(n: usize, columns: &[[f64; STATES]; STATES], offset: [f64; STATES]
     let solved = elimination::solve(n, elimination::system(n, columns), offset);
     let reply = solved.reply;
     match reply {
-        Reply::Refused(refusal) => not_solved(refusal::number(Reply::Refused(refusal)), 0.0),
+        Reply::Refused(refusal) => not_solved(refusal, 0.0),
         Reply::Done => {
             let amounts = solved.amounts;
             CycleEnd {
-                stopped: false,
-                number: 0,
+                reply: Reply::Done,
                 time: 0.0,
                 amounts,
             }
@@ -71,14 +69,20 @@ pub fn solution(
 {
     let zero = [0.0f64; STATES];
     let offset = cycle_run::last_of(kernel, n, zero, window, reals, words, count);
-    if offset.stopped {
-        return not_solved(offset.number, offset.time);
+    let first = offset.reply;
+    match first {
+        Reply::Refused(refusal) => not_solved(refusal, offset.time),
+        Reply::Done => {
+            let mut columns = column_cells();
+            let runs = unit_columns::columns(kernel, n, window, reals, words, count, &mut columns);
+            let reply = runs.reply;
+            match reply {
+                Reply::Refused(refusal) => not_solved(refusal, runs.time),
+                Reply::Done => {
+                    let right = offset.amounts;
+                    eliminated(n, &columns, right)
+                }
+            }
+        }
     }
-    let mut columns = column_cells();
-    let runs = unit_columns::columns(kernel, n, window, reals, words, count, &mut columns);
-    if runs.stopped {
-        return not_solved(runs.number, runs.time);
-    }
-    let right = offset.amounts;
-    eliminated(n, &columns, right)
 }

@@ -7,6 +7,9 @@ use native.Mathlib.Nat.{le-trans, mul-le-mul-left, mul-le-mul-right}
 use native.Mathlib.Omega.{arith}
 use lib.ListN.{length, take}
 use lib.Ieee.{Float}
+use Rattle.refusal.specs.Numbers.{replyNumber}
+use Rattle.refusal.specs.declared.Reply.{Reply}
+use Rattle.refusal.specs.declared.Reply.the-variants.{Done, Refused}
 use Rattle.matrix.specs.Exponential.{scheme}
 use Rattle.linear_pk.specs.LinearPk.{advance}
 use Rattle.linear_pk.specs.declared.kernel.LinearPk.{LinearPk}
@@ -17,13 +20,13 @@ use Rattle.protocol.specs.PlainRun.{Prepared}
 use Rattle.protocol.specs.declared.Event.{Event}
 use Rattle.protocol.specs.declared.Window.{Window}
 use Rattle.rows.specs.Written.{Cells, Room}
-use Rattle.rows.specs.Told.{Told, told, behindOf, after, Ran, kernelAdvance}
+use Rattle.rows.specs.Told.{Told, isRefused, told, behindOf, after, Ran, kernelAdvance}
 use Rattle.rows.specs.declared.Progress.{Progress}
 use Rattle.simulate_matrix.specs.Started.{started}
 use Rattle.prepared_run.specs.KernelRun.{propagatorOf}
 use Rattle.cycle.specs.Closed.{Timed, stopped, got, divided, endOf, lastOf}
 use Rattle.cycle.proofs.InnerRuns.{run-leaves}
-use Rattle.cycle_run.specs.Ends.{Runs}
+use Rattle.cycle_run.specs.Ends.{Runs, timedOf}
 
 -- ---- room for the reckoned rows
 pub inner-room : (n : ℕ) (es : List Event) (c : Cells) → n ≤ 4 → length es ≤ 192 → 770 ≤ length (c .times) → 770 ≤ length (c .sides) → 3080 ≤ length (c .values) → Room n (reckoned [] es) c
@@ -36,6 +39,10 @@ inner-room n es c s e t d v =
     }
 
 -- ---- where it comes to
+as-told : (y : Reply) (t : Float) (a : List Float) → timedOf y t a ≡ cond (isRefused y) (stopped (replyNumber y) t) (got a)
+as-told Done t a = refl
+as-told (Refused r) t a = refl
+
 abbrev toldEnd : Told → Timed (List Float)
 toldEnd t = cond (t .stopped) (stopped (t .number) (t .time)) (got (t .amounts))
 
@@ -50,10 +57,10 @@ module _ (k : LinearPk) (n : ℕ) (w : Window) (es : List Event) (initial : List
 
   pub inner : {v : Window} {p : Progress} {old c : Cells} → v ≡ divided n w → Prepared n v [] es
       → Ran (kernelAdvance k n) n (started initial (v .propagations)) (schedule n v [] es) old p c
-      → toldEnd (told n p) ≡ lastOf (propagatorOf k) n w es (take n initial)
+      → timedOf (p .reply) (p .time) (take n (p .amounts)) ≡ lastOf (propagatorOf k) n w es (take n initial)
   unfolding lastOf runOf after
   inner {v} {p} {old} {c} e q r =
       let r' = subst (λ (u : Window). Ran (kernelAdvance k n) n (started initial (u .propagations)) (schedule n u [] es) old p c) e r in
       let r″ = subst (λ (f : Propagator). Ran f n (started initial (divided n w .propagations)) (schedule n (divided n w) [] es) old p c) kernel-advance r' in
-      ap toldEnd (r″ .progress)
+      as-told (p .reply) (p .time) (take n (p .amounts)) ∙ ap toldEnd (r″ .progress)
       ∙ came-to (subst (λ (u : Window). Prepared n u [] es) e q) (runOf (propagatorOf k) n (divided n w) [] es (take n initial)) refl (told n (started initial (divided n w .propagations)))

@@ -3,6 +3,7 @@ use events::EVENTS;
 use linear_pk::LinearPk;
 use matrix::STATES;
 use protocol::Window;
+use refusal::Reply;
 ghost use mathlib.Core.Path.{_≡_};
 ghost use Prim.Native.Nat.{_≤_};
 ghost use lib.ListN.{length, take};
@@ -11,10 +12,9 @@ ghost use Rattle.prepared_run.specs.KernelRun.{propagatorOf};
 ghost use Rattle.cycle.specs.Closed.{lastOf};
 ghost use Rattle.cycle_run.specs.Ends.{Runs, cycleEnd};
 
-// Stopped by a number at a time, or the amounts of the last post row.
+// Stopped by a refusal at a time, or the amounts of the last post row.
 pub struct CycleEnd {
-    pub stopped: bool,
-    pub number: u64,
+    pub reply: Reply,
     pub time: f64,
     pub amounts: [f64; STATES],
 }
@@ -54,10 +54,10 @@ fn last_in(
         sides,
         values,
     );
+    let reply = p.reply;
     let amounts = p.amounts;
     CycleEnd {
-        stopped: p.stopped,
-        number: p.number,
+        reply,
         time: p.time,
         amounts,
     }

@@ -1,6 +1,8 @@
 // Single steps at a boundary: the state is checked, or a reset or a bolus is applied and the state checked.
 use matrix::STATES;
 use protocol::Event;
+use refusal::Refusal;
+use refusal::Reply;
 use rows::Progress;
 ghost use mathlib.Core.Path.{_≡_};
 ghost use mathlib.Core.List.{[], _∷_, map};
@@ -16,8 +18,7 @@ fn tested(n: usize, t: f64, start: Progress, amounts: [f64; STATES]) -> Progress
 {
     if dosed_amounts::check_state(n, amounts) {
         return Progress {
-            stopped: false,
-            number: 0,
+            reply: Reply::Done,
             time: 0.0,
             amounts: amounts,
             left: start.left,
@@ -26,8 +27,7 @@ fn tested(n: usize, t: f64, start: Progress, amounts: [f64; STATES]) -> Progress
         };
     }
     Progress {
-        stopped: true,
-        number: 31,
+        reply: Reply::Refused(Refusal::State),
         time: t,
         amounts: amounts,
         left: start.left,
@@ -86,8 +86,7 @@ pub fn resumed(p: Progress) -> Progress
 {
     let amounts = p.amounts;
     Progress {
-        stopped: false,
-        number: 0,
+        reply: Reply::Done,
         time: 0.0,
         amounts: amounts,
         left: p.left,

@@ -25,7 +25,7 @@ fn apply_boluses(
     let mut i = 0usize;
     while i < count {
         let q = dose_steps::apply_bolus(events::event_at(reals, words, i), n, t, p);
-        if q.stopped {
+        if q.stopped() {
             return q;
         }
         p = q;
@@ -51,7 +51,7 @@ fn apply_listed(
     let mut k = 0usize;
     while k < m {
         let q = dose_steps::apply_one(events::event_at(reals, words, list[k]), n, t, p);
-        if q.stopped {
+        if q.stopped() {
             return q;
         }
         p = q;
@@ -90,7 +90,7 @@ pub fn apply_events(
     ensures { λ r. ⌜ Takes n start (map (apply t) (resets t (packed (now (reals .entry)) (now (words .entry)) count) ++ boluses t (packed (now (reals .entry)) (now (words .entry)) count))) r ⌝ }
 {
     let p = apply_resets(reals, words, count, n, t, start);
-    if p.stopped {
+    if p.stopped() {
         return p;
     }
     apply_boluses(reals, words, count, n, t, p)

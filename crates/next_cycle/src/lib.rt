@@ -2,6 +2,7 @@
 use linear_pk::LinearPk;
 use next_printout::print_next;
 use printout_reply::PrintReply;
+use refusal::Reply;
 use sheet_cycle::solve_bodies;
 use steady_printout::print_steady;
 use steady_reply::SteadyReply;
@@ -26,7 +27,10 @@ fn refusal_of(reply: SteadyReply) -> Refusal
     ensures { λ r. ⌜ (r .number ≡ steadyReply reply .number) × (r .time ≡ steadyReply reply .time) ⌝ }
 {
     match reply {
-        SteadyReply::Refused { number, time } => Refusal { number, time },
+        SteadyReply::Refused { refusal, time } => {
+            let number = refusal::number(Reply::Refused(refusal));
+            Refusal { number, time }
+        }
         SteadyReply::Solved { maximum: _ } => Refusal {
             number: 0,
             time: 0.0,

@@ -12,7 +12,7 @@ use Rattle.protocol.specs.Schedule.{Step, summed, marked, atBoundary, onInterva
 use Rattle.protocol.specs.Execute.{Propagator}
 use Rattle.protocol.specs.declared.Event.{Event}
 use Rattle.rows.specs.Written.{Cells}
-use Rattle.rows.specs.Told.{Ran, Fits}
+use Rattle.rows.specs.Told.{isRefused, Ran, Fits}
 use Rattle.rows.specs.declared.Progress.{Progress}
 use Rattle.rows.proofs.Parts.{ran-stops, ran-then, fits-first, fits-then}
 
@@ -26,10 +26,10 @@ module _ (advance : Propagator) (n : ℕ) (es : List Event) (ss bs : List Float)
     pub ahead : List Step
     pub whole : ahead ++ leftOf n es ss bs ms b ≡ fromFirst n es ss bs
     pub ran : Ran advance n start ahead old p c
-    pub on : p .stopped ≡ false
+    pub on : isRefused (p .reply) ≡ false
     pub room : Fits n p (leftOf n es ss bs ms b) c
 
-  pub going-start : {p : Progress} {ms : List Bool} → 1 ≤ length bs → ms ≡ replicate (length es) false → Ran advance n start [] old p old → p .stopped ≡ false → Fits n p (fromFirst n es ss bs) old → Going ms p old 0
+  pub going-start : {p : Progress} {ms : List Bool} → 1 ≤ length bs → ms ≡ replicate (length es) false → Ran advance n start [] old p old → isRefused (p .reply) ≡ false → Fits n p (fromFirst n es ss bs) old → Going ms p old 0
   unfolding fromFirst
   going-start {p} {ms} h m r o f = record {
     ahead = [];
@@ -97,23 +97,23 @@ module _ (advance : Propagator) (n : ℕ) (es : List Event) (ss bs : List Float)
         so-far : Ran advance n start (g .ahead ++ atBoundary (getD bs b nan) es) old q d
         so-far = ran-then (g .ran) (g .on) r
 
-        pub here-stopped : q .stopped ≡ true → Ran advance n start (fromFirst n es ss bs) old q d
+        pub here-stopped : isRefused (q .reply) ≡ true → Ran advance n start (fromFirst n es ss bs) old q d
         here-stopped s = subst (λ (xs : List Step). Ran advance n start xs old q d) whole-here (ran-stops rest so-far s)
 
         pub next-room : Fits n q (interval ms b) d
         next-room = fits-first (interval ms b) (leftOf n es ss bs (marked (getD bs b nan) es ms) (suc b)) (fits-then (atBoundary (getD bs b nan) es) rest room-here r)
 
-        module _ {u : Progress} {e : Cells} (o : q .stopped ≡ false) (k : Ran advance n q (interval ms b) d u e) where
+        module _ {u : Progress} {e : Cells} (o : isRefused (q .reply) ≡ false) (k : Ran advance n q (interval ms b) d u e) where
           further : Ran advance n start ((g .ahead ++ atBoundary (getD bs b nan) es) ++ interval ms b) old u e
           further = ran-then so-far o k
 
           whole-next : ((g .ahead ++ atBoundary (getD bs b nan) es) ++ interval ms b) ++ leftOf n es ss bs (marked (getD bs b nan) es ms) (suc b) ≡ fromFirst n es ss bs
           whole-next = append-assoc (g .ahead ++ atBoundary (getD bs b nan) es) (interval ms b) (leftOf n es ss bs (marked (getD bs b nan) es ms) (suc b)) ∙ whole-here
 
-          pub next-stopped : u .stopped ≡ true → Ran advance n start (fromFirst n es ss bs) old u e
+          pub next-stopped : isRefused (u .reply) ≡ true → Ran advance n start (fromFirst n es ss bs) old u e
           next-stopped s = subst (λ (xs : List Step). Ran advance n start xs old u e) whole-next (ran-stops (leftOf n es ss bs (marked (getD bs b nan) es ms) (suc b)) further s)
 
-          pub next-going : {ns : List Bool} → ns ≡ marked (getD bs b nan) es ms → u .stopped ≡ false → Going ns u e (b + 1)
+          pub next-going : {ns : List Bool} → ns ≡ marked (getD bs b nan) es ms → isRefused (u .reply) ≡ false → Going ns u e (b + 1)
           next-going m s = rw (m, add-one) (record {
             ahead = (g .ahead ++ atBoundary (getD bs b nan) es) ++ interval ms b;
             whole = whole-next;
@@ -130,14 +130,14 @@ module _ (advance : Propagator) (n : ℕ) (es : List Event) (ss bs : List Float)
           pub code-room : Fits n q (onInterval (getD bs b nan) xs (getD bs (b + 1) nan) ss) d
           code-room = subst (λ (ys : List Step). Fits n q ys d) as-code next-room
 
-          module _ {u : Progress} {e : Cells} (o : q .stopped ≡ false) (k : Ran advance n q (onInterval (getD bs b nan) xs (getD bs (b + 1) nan) ss) d u e) where
+          module _ {u : Progress} {e : Cells} (o : isRefused (q .reply) ≡ false) (k : Ran advance n q (onInterval (getD bs b nan) xs (getD bs (b + 1) nan) ss) d u e) where
             as-interval : Ran advance n q (interval ms b) d u e
             as-interval = subst (λ (ys : List Step). Ran advance n q ys d u e) (sym as-code) k
 
-            pub code-stopped : u .stopped ≡ true → Ran advance n start (fromFirst n es ss bs) old u e
+            pub code-stopped : isRefused (u .reply) ≡ true → Ran advance n start (fromFirst n es ss bs) old u e
             code-stopped s = next-stopped o as-interval s
 
-            pub code-going : u .stopped ≡ false → Going ns u e (b + 1)
+            pub code-going : isRefused (u .reply) ≡ false → Going ns u e (b + 1)
             code-going s = next-going o as-interval m s
 
 take-replicate : {A : Type 0} (k m : ℕ) (a : A) → k ≤ m → take k (replicate m a) ≡ replicate k a

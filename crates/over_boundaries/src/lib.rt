@@ -1,6 +1,7 @@
 // The loop over boundaries of the analytic run.
 use events::EVENTS;
 use linear_pk::LinearPk;
+use refusal::Reply;
 use rows::Progress;
 ghost use Prim.Native.Nat.{_≤_};
 ghost use lib.ListN.{length};
@@ -31,8 +32,7 @@ pub fn over_boundaries(
     let mut marks = [false; EVENTS];
     let amounts = start.amounts;
     let mut p = Progress {
-        stopped: false,
-        number: 0,
+        reply: Reply::Done,
         time: 0.0,
         amounts: amounts,
         left: start.left,
@@ -43,7 +43,7 @@ pub fn over_boundaries(
     while b < last {
         let t = bounds[b];
         let q = boundary::at_boundary(reals, words, count, n, t, p, times, sides, values);
-        if q.stopped {
+        if q.stopped() {
             return q;
         }
         event_marks::mark(reals, words, count, t, &mut marks);
@@ -61,7 +61,7 @@ pub fn over_boundaries(
             sides,
             values,
         );
-        if s.stopped {
+        if s.stopped() {
             return s;
         }
         p = s;

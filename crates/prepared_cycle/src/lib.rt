@@ -4,6 +4,7 @@ use events::EVENTS;
 use linear_pk::LinearPk;
 use protocol::Window;
 use refusal::Refusal;
+use refusal::Reply;
 use steady_reply::SteadyReply;
 ghost use mathlib.Core.Bool.{_&&_};
 ghost use Prim.Native.Nat.{_≤_};
@@ -39,33 +40,39 @@ pub fn execute_prepared_periodic_steady_state(
         return steady_reply::refused(Refusal::ShortSlice);
     }
     let found = candidate::solution(kernel, n, window, reals, words, count);
-    if found.stopped {
-        return SteadyReply::Refused {
-            number: found.number,
+    let solved = found.reply;
+    match solved {
+        Reply::Refused(refusal) => SteadyReply::Refused {
+            refusal,
             time: found.time,
-        };
-    }
-    let candidate = found.amounts;
-    let judgement = acceptance::accepted(
-        kernel,
-        n,
-        window,
-        tolerance,
-        reals,
-        words,
-        count,
-        candidate,
-    );
-    if judgement.stopped {
-        return SteadyReply::Refused {
-            number: judgement.number,
-            time: judgement.time,
-        };
-    }
-    let residuals = judgement.residuals;
-    steady_reply::lay(n, candidate, amounts);
-    steady_reply::lay(n, residuals, residual);
-    SteadyReply::Solved {
-        maximum: judgement.greatest,
+        },
+        Reply::Done => {
+            let candidate = found.amounts;
+            let judgement = acceptance::accepted(
+                kernel,
+                n,
+                window,
+                tolerance,
+                reals,
+                words,
+                count,
+                candidate,
+            );
+            let reply = judgement.reply;
+            match reply {
+                Reply::Refused(refusal) => SteadyReply::Refused {
+                    refusal,
+                    time: judgement.time,
+                },
+                Reply::Done => {
+                    let residuals = judgement.residuals;
+                    steady_reply::lay(n, candidate, amounts);
+                    steady_reply::lay(n, residuals, residual);
+                    SteadyReply::Solved {
+                        maximum: judgement.greatest,
+                    }
+                }
+            }
+        }
     }
 }

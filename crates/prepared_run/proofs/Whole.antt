@@ -19,6 +19,10 @@ use Rattle.protocol.specs.declared.Window.{Window}
 use Rattle.protocol.specs.Events.{time}
 use Rattle.protocol.specs.Prepare.{reckoned, prepare}
 use Rattle.refusal.specs.Result.{Result, done, andThen, unless}
+use Rattle.refusal.specs.Numbers.{replyNumber}
+use Rattle.refusal.specs.declared.Refusal.{Refusal}
+use Rattle.refusal.specs.declared.Reply.{Reply as Answer}
+use Rattle.refusal.specs.declared.Reply.the-variants.{Done, Refused}
 use Rattle.linear_pk.specs.declared.kernel.LinearPk.{LinearPk}
 use Rattle.linear_pk.specs.LinearPk.{stateCount, counted, ratesFinite, sound}
 use Rattle.protocol.specs.Execute.{Row, Outcome, go, stop, run, begin, runOf}
@@ -29,7 +33,7 @@ use Rattle.protocol.proofs.EntryLaws.{Passes, ahead-none, laid-length, one-each
 use Rattle.protocol.proofs.ListLaws.{both, all→All, All-map}
 use Rattle.rows.specs.declared.Progress.{Progress}
 use Rattle.rows.specs.Written.{put, Cells, cells, written, Room}
-use Rattle.rows.specs.Told.{Told, told, behindOf, after, Ran, kernelAdvance}
+use Rattle.rows.specs.Told.{Told, isRefused, told, behindOf, after, Ran, kernelAdvance}
 use Rattle.rows.proofs.Exits.{written-times, written-sides, written-values, put-zeros, progressReply, ran-reply, ran-rows}
 use Rattle.rows.proofs.Parts.{ran-same}
 use Rattle.rows.proofs.Puts.{room-less}
@@ -165,7 +169,7 @@ module _ (k : LinearPk) (initial : List Float) (w : Window) (ss : List Float) (e
           cuts : (rs : List Row) → T (all (λ (x : Row). amountsPass (stateCount k) (x .amounts)) rs) → All (λ (x : Row). length (x .amounts) ≡ stateCount k) rs
           cuts rs g = All-map (λ (x : Row) (q : T (amountsPass (stateCount k) (x .amounts))). width (stateCount k) x q) rs (all→All (λ (x : Row). amountsPass (stateCount k) (x .amounts)) rs g)
 
-      stops-as : p .stopped ≡ isStop outcome
+      stops-as : isRefused (p .reply) ≡ isStop outcome
       unfolding runOf kernelAdvance firsts after
       stops-as = ap (λ (q : Told). q .stopped) (r .progress) ∙ on (run (propagatorOf k) (w .propagations) (begin (take (stateCount k) initial)) (schedule (stateCount k) w ss es))
         where
@@ -173,23 +177,23 @@ module _ (k : LinearPk) (initial : List Float) (w : Window) (ss : List Float) (e
           on (go z) = refl
           on (stop c u z) = refl
 
-      pub reached-exit : p .stopped ≡ false
+      pub reached-exit : p .reply ≡ Done
           → (ts' ≡ timesAtExit (reckoned ss es) (done outcome) times) × (ds' ≡ sidesAtExit (reckoned ss es) (done outcome) sides) × (vs' ≡ valuesAtExit (reckoned ss es) (stateCount k) (done outcome) values)
       reached-exit e =
-          let g = sym stops-as ∙ e in (
+          let g = sym stops-as ∙ ap isRefused e in (
             times-are ∙ sym (exit-reached plusZero (λ (x : Row). x .time ∷ []) (reckoned ss es) outcome times g),
             sides-are ∙ sym (exit-reached 0 (λ (x : Row). sideCode (x .side) ∷ []) (reckoned ss es) outcome sides g),
             values-are ∙ sym (exit-reached plusZero (λ (x : Row). x .amounts) (reckoned ss es * stateCount k) outcome values g),
           )
 
-      pub stopped-reply : p .stopped ≡ true → runReply (Stopped (p .number) (p .time) (p .made)) ≡ replyOf (done outcome)
-      stopped-reply e = ap (λ (b : Bool). record { number = p .number; time = p .time; rows = cond b 0 (p .rows); advances = p .made }) (sym e) ∙ whole-reply
+      pub stopped-reply : (x : Refusal) → p .reply ≡ Refused x → runReply (Stopped x (p .time) (p .made)) ≡ replyOf (done outcome)
+      stopped-reply x e = ap (λ (y : Answer). record { number = replyNumber y; time = p .time; rows = cond (isRefused y) 0 (p .rows); advances = p .made }) (sym e) ∙ whole-reply
 
-      pub reached-reply : p .stopped ≡ false → runReply (Reached (p .rows) (p .made)) ≡ replyOf (done outcome)
-      reached-reply e = on outcome whole-reply (sym stops-as ∙ e)
+      pub reached-reply : p .reply ≡ Done → runReply (Reached (p .rows) (p .made)) ≡ replyOf (done outcome)
+      reached-reply e = on outcome whole-reply (sym stops-as ∙ ap isRefused e)
         where
           on : (o : Outcome) → progressReply p ≡ replyOf (done o) → isStop o ≡ false → runReply (Reached (p .rows) (p .made)) ≡ replyOf (done o)
-          on (go z) q g = ap₂ (λ (i j : ℕ). record { number = 0; time = plusZero; rows = i; advances = j }) (ap (λ (b : Bool). cond b 0 (p .rows)) (sym e) ∙ ap (λ (x : Reply). x .rows) q) (ap (λ (x : Reply). x .advances) q)
+          on (go z) q g = ap₂ (λ (i j : ℕ). record { number = 0; time = plusZero; rows = i; advances = j }) (ap (λ (y : Answer). cond (isRefused y) 0 (p .rows)) (sym e) ∙ ap (λ (x : Reply). x .rows) q) (ap (λ (x : Reply). x .advances) q)
           on (stop c u z) q g = absurd (subst T g tt)
 
       -- room for zeros again
@@ -207,11 +211,11 @@ module _ (k : LinearPk) (initial : List Float) (w : Window) (ss : List Float) (e
                 ∙ laid-length plusZero (reckoned ss es * stateCount k) [] values zero-le (whole-room .values),
           )
 
-      pub stopped-exit : p .stopped ≡ true → {ts″ : List Float} {ds″ : List ℕ} {vs″ : List Float}
+      pub stopped-exit : (x : Refusal) → p .reply ≡ Refused x → {ts″ : List Float} {ds″ : List ℕ} {vs″ : List Float}
           → ts″ ≡ laid plusZero (reckoned ss es) [] ts' → ds″ ≡ laid 0 (reckoned ss es) [] ds' → vs″ ≡ laid plusZero (reckoned ss es * stateCount k) [] vs'
           → (ts″ ≡ timesAtExit (reckoned ss es) (done outcome) times) × (ds″ ≡ sidesAtExit (reckoned ss es) (done outcome) sides) × (vs″ ≡ valuesAtExit (reckoned ss es) (stateCount k) (done outcome) values)
-      stopped-exit e a b c =
-          let g = sym stops-as ∙ e in (
+      stopped-exit x e a b c =
+          let g = sym stops-as ∙ ap isRefused e in (
             a ∙ ap (laid plusZero (reckoned ss es) []) times-are ∙ laid-over plusZero (reckoned ss es) timeCells times time-count ∙ sym (exit-stopped plusZero (λ (x : Row). x .time ∷ []) (reckoned ss es) outcome times g),
             b ∙ ap (laid 0 (reckoned ss es) []) sides-are ∙ laid-over 0 (reckoned ss es) sideCells sides side-count ∙ sym (exit-stopped 0 (λ (x : Row). sideCode (x .side) ∷ []) (reckoned ss es) outcome sides g),
             c ∙ ap (laid plusZero (reckoned ss es * stateCount k) []) values-are ∙ laid-over plusZero (reckoned ss es * stateCount k) valueCells values value-count ∙ sym (exit-stopped plusZero (λ (x : Row). x .amounts) (reckoned ss es * stateCount k) outcome values g),
@@ -255,7 +259,7 @@ module _ (k : LinearPk) (initial : List Float) (w : Window) (ss : List Float) (e
             subst (λ (j : ℕ). Room j rows (cells ts' ds' vs')) (sym m)
             (subst (λ (i : ℕ). Room (stateCount k) i (cells ts' ds' vs')) (sym q) (left-room times-cleared sides-cleared values-cleared prepared ran))
 
-        pub reached : p .stopped ≡ false
+        pub reached : p .reply ≡ Done
             → (runReply (Reached (p .rows) (p .made)) ≡ replyOf whole)
             × ((ts' ≡ timesAtExit (reckoned ss es) whole times) × ((ds' ≡ sidesAtExit (reckoned ss es) whole sides) × (vs' ≡ valuesAtExit (reckoned ss es) (stateCount k) whole values)))
         reached e =
@@ -278,11 +282,11 @@ module _ (k : LinearPk) (initial : List Float) (w : Window) (ss : List Float) (e
           pub same-again : (length ts″ ≡ length times) × (length ds″ ≡ length sides) × (length vs″ ≡ length values)
           same-again = stopped-same times-cleared sides-cleared values-cleared prepared ran times-again sides-again values-again
 
-          pub stopped : p .stopped ≡ true
-              → (runReply (Stopped (p .number) (p .time) (p .made)) ≡ replyOf whole)
+          pub stopped : (r : Refusal) → p .reply ≡ Refused r
+              → (runReply (Stopped r (p .time) (p .made)) ≡ replyOf whole)
               × ((ts″ ≡ timesAtExit (reckoned ss es) whole times) × ((ds″ ≡ sidesAtExit (reckoned ss es) whole sides) × (vs″ ≡ valuesAtExit (reckoned ss es) (stateCount k) whole values)))
-          stopped e =
-              let x = stopped-exit times-cleared sides-cleared values-cleared prepared ran e times-again sides-again values-again in (
-                stopped-reply times-cleared sides-cleared values-cleared prepared ran e,
+          stopped r e =
+              let x = stopped-exit times-cleared sides-cleared values-cleared prepared ran r e times-again sides-again values-again in (
+                stopped-reply times-cleared sides-cleared values-cleared prepared ran r e,
                 (x .0, (x .1, x .2)),
               )

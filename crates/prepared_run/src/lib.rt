@@ -4,6 +4,7 @@ use linear_pk::LinearPk;
 use matrix::STATES;
 use preparation::SAMPLES;
 use protocol::Window;
+use refusal::Reply;
 use run_report::RunReply;
 ghost use mathlib.Core.Path.{_≡_};
 ghost use mathlib.Core.List.{[]};
@@ -79,16 +80,19 @@ pub fn run_prepared(
         sides,
         values,
     );
-    if p.stopped {
-        clear(times, sides, values, rows, n);
-        return RunReply::Stopped {
-            number: p.number,
-            time: p.time,
+    let reply = p.reply;
+    match reply {
+        Reply::Refused(refusal) => {
+            clear(times, sides, values, rows, n);
+            RunReply::Stopped {
+                refusal,
+                time: p.time,
+                advances: p.made,
+            }
+        }
+        Reply::Done => RunReply::Reached {
+            rows: p.rows,
             advances: p.made,
-        };
-    }
-    RunReply::Reached {
-        rows: p.rows,
-        advances: p.made,
+        },
     }
 }

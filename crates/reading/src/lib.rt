@@ -1,6 +1,8 @@
 // One reading between two boundaries.
 use linear_pk::LinearPk;
 use matrix::STATES;
+use refusal::Refusal;
+use refusal::Reply;
 use rows::Progress;
 ghost use mathlib.Core.List.{[], _∷_};
 ghost use lib.ListN.{take};
@@ -30,8 +32,7 @@ pub fn read(
     let row = start.rows;
     if left == 0 {
         return Progress {
-            stopped: true,
-            number: 30,
+            reply: Reply::Refused(Refusal::PropagationBudget),
             time: s,
             amounts: amounts,
             left: 0,
@@ -40,26 +41,27 @@ pub fn read(
         };
     }
     let m = rows::propagate(kernel, n, amounts, rates, s - t);
-    if m.refused {
-        return Progress {
-            stopped: true,
-            number: m.number,
+    let reply = m.reply;
+    match reply {
+        Reply::Refused(refusal) => Progress {
+            reply: Reply::Refused(refusal),
             time: s,
             amounts: amounts,
             left: left - 1,
             made: made,
             rows: row,
-        };
-    }
-    let reached = m.amounts;
-    rows::put_row(times, sides, values, row, n, s, 2, reached);
-    Progress {
-        stopped: false,
-        number: 0,
-        time: 0.0,
-        amounts: amounts,
-        left: left - 1,
-        made: made,
-        rows: row + 1,
+        },
+        Reply::Done => {
+            let reached = m.amounts;
+            rows::put_row(times, sides, values, row, n, s, 2, reached);
+            Progress {
+                reply: Reply::Done,
+                time: 0.0,
+                amounts: amounts,
+                left: left - 1,
+                made: made,
+                rows: row + 1,
+            }
+        }
     }
 }

@@ -7,6 +7,7 @@ use mathlib.Core.Bool.{cond}
 use mathlib.Core.List.{List, [], _∷_, _++_}
 use lib.ListN.{length, take, drop, replicate}
 use Rattle.refusal.specs.Result.{done}
+use Rattle.refusal.specs.Numbers.{replyNumber}
 use Rattle.binary64.proofs.Sorted.{All}
 use Rattle.binary64.specs.Lists.{gather}
 use Rattle.protocol.specs.Schedule.{Step}
@@ -14,7 +15,7 @@ use Rattle.protocol.specs.Execute.{Propagator, Row, Outcome, go, stop, run, beg
 use Rattle.protocol.specs.Entry.{Reply, replyOf, sideCode, laid}
 use Rattle.protocol.specs.PlainRun.{rowsLeft}
 use Rattle.rows.specs.Written.{put, Cells, rowAt, written}
-use Rattle.rows.specs.Told.{Told, told, behindOf, after, Ran}
+use Rattle.rows.specs.Told.{Told, isRefused, told, behindOf, after, Ran}
 use Rattle.rows.specs.declared.Progress.{Progress}
 
 -- ---- rows as lists over the cells
@@ -80,7 +81,7 @@ put-zeros {A} z k xs old h = ap (λ (j : ℕ). put 0 xs (replicate j z ++ drop k
 
 -- ---- the reply
 abbrev pub progressReply : Progress → Reply
-progressReply p = record { number = p .number; time = p .time; rows = cond (p .stopped) 0 (p .rows); advances = p .made }
+progressReply p = record { number = replyNumber (p .reply); time = p .time; rows = cond (isRefused (p .reply)) 0 (p .rows); advances = p .made }
 
 module _ {advance : Propagator} {n : ℕ} (start : Progress) (none-made : start .made ≡ 0) (no-rows : start .rows ≡ 0) {xs : List Step} {old c : Cells} {p : Progress} (h : Ran advance n start xs old p c) where
   pub ran-reply : progressReply p ≡ replyOf (done (run advance (start .left) (begin (take n (start .amounts))) xs))

@@ -1,7 +1,7 @@
 -- What `advance` gives: a refusal's number is above 0, and the amounts are as many as were given.
 use mathlib.Core.Path.{_≡_, refl, sym, ap, _∙_, subst}
-use Prim.Native.Nat.{ℕ, zero, suc, _+_, _<_}
-use native.Mathlib.Nat.{lt-irrefl}
+use Prim.Native.Nat.{ℕ, zero, suc, _+_, _≤_, _<_}
+use native.Mathlib.Nat.{lt-irrefl, not-suc-le-zero}
 use native.Mathlib.Omega.{arith}
 use mathlib.Core.Bool.{Bool, true, false, _&&_}
 use mathlib.Core.List.{List, _++_, append-nil}
@@ -12,6 +12,10 @@ use lib.Ieee.{Float, binary64, mul, eq, lt}
 use lib.Ieee.Scale.{finite}
 use Rattle.binary64.specs.Doubles.{plusZero, half, nonnegative}
 use Rattle.refusal.specs.Result.{Result, refused, done, andThen, unless, number, laid}
+use Rattle.refusal.specs.Numbers.{replyNumber, resultOf}
+use Rattle.refusal.specs.declared.Reply.{Reply}
+use Rattle.refusal.specs.declared.Reply.the-variants.{Done, Refused}
+use Rattle.refusal.proofs.Numbers.{refusal-number}
 use Rattle.matrix.specs.Matrix.{Matrix, cell, tabulate, allTo}
 use Rattle.binary64.specs.Lists.{all, amountsPass}
 use Rattle.matrix.specs.Exponential.{Scheme, scheme, halvings, countOf, normTo, taylor, allFinite, exponential}
@@ -92,26 +96,18 @@ module _ (s : Scheme) (k : LinearPk) where
         n = stateCount k
 
 -- ---- the code's advance
-module _ (k : LinearPk) (n : ℕ) (x r : List Float) (d : Float) (room : ℕ) (same : room ≡ n) (count : length x ≡ n) (num reply : ℕ) (same-number : num ≡ reply) (says : reply ≡ number (advance scheme k x r d room)) where
-  e : num ≡ number (advance scheme k x r d room)
-  e = same-number ∙ says
-
+module _ (k : LinearPk) (n : ℕ) (x r : List Float) (d : Float) (room : ℕ) (same : room ≡ n) (count : length x ≡ n) (reply : Reply) (says : replyNumber reply ≡ number (advance scheme k x r d room)) where
   by-room : advance scheme k x r d room ≡ kernelAdvance k n x r d
   unfolding kernelAdvance
   by-room = ap (advance scheme k x r d) same
 
-  pub advance-refused : (num ≡ 0 → ⊥) → refused num ≡ kernelAdvance k n x r d
-  advance-refused h = on (advance scheme k x r d room) e ∙ by-room
+  pub advance-moves : (old out rest : List Float) → length old ≡ n → out ≡ laid (advance scheme k x r d room) old → resultOf reply (take n (out ++ rest)) ≡ kernelAdvance k n x r d
+  advance-moves old out rest l q = on reply (advance scheme k x r d room) (sure-advance scheme k x r d room) says q ∙ by-room
     where
-      on : (a : Result (List Float)) → num ≡ number a → refused num ≡ a
-      on (refused c) q = ap refused q
-      on (done y) q = absurd (h q)
-
-  pub advance-done : num ≡ 0 → (old out rest : List Float) → length old ≡ n → out ≡ laid (advance scheme k x r d room) old → done (take n (out ++ rest)) ≡ kernelAdvance k n x r d
-  advance-done z old out rest l q = on (advance scheme k x r d room) (sure-advance scheme k x r d room) e q ∙ by-room
-    where
-      on : (a : Result (List Float)) → Sure (λ (y : List Float). length y ≡ length x) a → num ≡ number a → out ≡ laid a old → done (take n (out ++ rest)) ≡ a
-      on (refused c) s p q = absurd (lt-irrefl 0 (subst (λ (j : ℕ). 0 < j) (sym p ∙ z) s))
-      on (done y) s p q =
+      on : (p : Reply) (a : Result (List Float)) → Sure (λ (y : List Float). length y ≡ length x) a → replyNumber p ≡ number a → out ≡ laid a old → resultOf p (take n (out ++ rest)) ≡ a
+      on (Refused i) (refused c) s p q = ap refused p
+      on (Refused i) (done y) s p q = absurd (not-suc-le-zero (subst (λ (j : ℕ). 1 ≤ j) p (refusal-number i)))
+      on Done (refused c) s p q = absurd (lt-irrefl 0 (subst (λ (j : ℕ). 0 < j) (sym p) s))
+      on Done (done y) s p q =
           let w : out ≡ y = q ∙ ap (λ (v : List Float). y ++ v) (drop-of-length-le old {i = length y} (omega arith)) ∙ append-nil y in
           ap done (ap (λ (v : List Float). take n (v ++ rest)) w ∙ take-append-le n y rest (omega arith) ∙ take-all n y (omega arith))

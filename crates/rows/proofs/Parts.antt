@@ -18,7 +18,8 @@ use Rattle.protocol.specs.PlainRun.{rowsLeft}
 use Rattle.protocol.proofs.Frame.{outBehind, run-parts}
 use Rattle.protocol.proofs.RowCounts.{total-append, rows-most}
 use Rattle.rows.specs.Written.{Cells, written}
-use Rattle.rows.specs.Told.{Told, told, behindOf, after, Ran, Fits}
+use Rattle.refusal.specs.declared.Reply.the-variants.{Done}
+use Rattle.rows.specs.Told.{Told, isRefused, told, behindOf, after, Ran, Fits}
 use Rattle.rows.specs.declared.Progress.{Progress}
 use Rattle.rows.proofs.Puts.{written-append, Same, written-same, room-less}
 
@@ -142,7 +143,7 @@ fits-first {n} {start} xs ys {c} f = record {
 
 -- ---- what a start says of a stop does not matter
 abbrev pub fresh : Progress → Progress
-fresh p = record { stopped = false; number = 0; time = plusZero; amounts = p .amounts; left = p .left; made = p .made; rows = p .rows }
+fresh p = record { reply = Done; time = plusZero; amounts = p .amounts; left = p .left; made = p .made; rows = p .rows }
 
 pub fits-fresh : {n : ℕ} {start : Progress} {xs : List Step} {c : Cells} → Fits n start xs c → Fits n (fresh start) xs c
 fits-fresh f = record { states = f .states; room = f .room; few = f .few }
@@ -168,7 +169,7 @@ module _ {advance : Propagator} {n : ℕ} where
   ran-afresh {start} {p} {xs} h = record { progress = h .progress ∙ sym (behind-fresh n start (run advance (start .left) (begin (take n (start .amounts))) xs)); cells = h .cells }
 
   pub ran-stops :
-      {start p : Progress} {xs : List Step} (ys : List Step) {old c : Cells} → Ran advance n start xs old p c → p .stopped ≡ true → Ran advance n start (xs ++ ys) old p c
+      {start p : Progress} {xs : List Step} (ys : List Step) {old c : Cells} → Ran advance n start xs old p c → isRefused (p .reply) ≡ true → Ran advance n start (xs ++ ys) old p c
   ran-stops {start} {p} {xs} ys {old} {c} h s =
       let w = after-stops advance (told n start) xs ys (ap (λ (x : Told). x .stopped) (sym (h .progress)) ∙ s) in
       record {
@@ -177,7 +178,7 @@ module _ {advance : Propagator} {n : ℕ} where
       }
 
   pub ran-then :
-      {start p q : Progress} {xs ys : List Step} {old c d : Cells} → Ran advance n start xs old p c → p .stopped ≡ false → Ran advance n p ys c q d
+      {start p q : Progress} {xs ys : List Step} {old c d : Cells} → Ran advance n start xs old p c → isRefused (p .reply) ≡ false → Ran advance n p ys c q d
       → Ran advance n start (xs ++ ys) old q d
   ran-then {start} {p} {q} {xs} {ys} {old} {c} {d} h s g =
       let u = told n start in

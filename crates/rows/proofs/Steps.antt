@@ -9,7 +9,9 @@ use lib.ListN.{take}
 use lib.Ieee.{Float, binary64, sub}
 use lib.Ieee.Scale.{finite}
 use Rattle.binary64.specs.Doubles.{plusZero}
-use Rattle.refusal.specs.Result.{refused}
+use Rattle.refusal.specs.declared.Refusal.{Refusal}
+use Rattle.refusal.specs.declared.Refusal.the-variants as R
+use Rattle.refusal.specs.declared.Reply.the-variants.{Done, Refused}
 use Rattle.binary64.specs.Lists.{all}
 use Rattle.protocol.specs.Schedule.{rates, reading, arrive}
 use Rattle.protocol.specs.Execute.{Propagator, Reading, propagate, execute, run}
@@ -23,60 +25,60 @@ module _ {advance : Propagator} {n : ℕ} (start : Progress) (c : Cells) where
   module _ (t : Float) (r : List Float) (s : Float) where
     pub read-spent :
         start .left ≡ 0
-        → Ran advance n start (reading t r s ∷ []) c (record { stopped = true; number = 30; time = s; amounts = start .amounts; left = 0; made = start .made + 1; rows = start .rows }) c
+        → Ran advance n start (reading t r s ∷ []) c (record { reply = Refused R.PropagationBudget; time = s; amounts = start .amounts; left = 0; made = start .made + 1; rows = start .rows }) c
     unfolding after run execute propagate
     read-spent z = record { progress = rw (z, add-zero (start .rows)); cells = rw z }
 
     module _ (m : Move) (g : 0 < start .left) (e : movedOf n m ≡ advance (take n (start .amounts)) r (sub binary64 s t)) where
       pub read-refused :
-          m .refused ≡ true
-          → Ran advance n start (reading t r s ∷ []) c (record { stopped = true; number = m .number; time = s; amounts = start .amounts; left = start .left - 1; made = start .made + 1; rows = start .rows }) c
+          (x : Refusal) → m .reply ≡ Refused x
+          → Ran advance n start (reading t r s ∷ []) c (record { reply = Refused x; time = s; amounts = start .amounts; left = start .left - 1; made = start .made + 1; rows = start .rows }) c
       unfolding after run execute propagate
-      read-refused f = record { progress = rw (lt-ltb 0 (start .left) g, ← e, f, add-zero (start .rows)); cells = rw (lt-ltb 0 (start .left) g, ← e, f) }
+      read-refused x f = record { progress = rw (lt-ltb 0 (start .left) g, ← e, f, add-zero (start .rows)); cells = rw (lt-ltb 0 (start .left) g, ← e, f) }
 
       pub read-done :
-          m .refused ≡ false
-          → Ran advance n start (reading t r s ∷ []) c (record { stopped = false; number = 0; time = plusZero; amounts = start .amounts; left = start .left - 1; made = start .made + 1; rows = start .rows + 1 })
+          m .reply ≡ Done
+          → Ran advance n start (reading t r s ∷ []) c (record { reply = Done; time = plusZero; amounts = start .amounts; left = start .left - 1; made = start .made + 1; rows = start .rows + 1 })
           (rowAt n (start .rows) (record { time = s; side = Reading; amounts = take n (m .amounts) }) c)
       unfolding after run execute propagate
       read-done f = record { progress = rw (lt-ltb 0 (start .left) g, ← e, f); cells = rw (lt-ltb 0 (start .left) g, ← e, f) }
 
       pub read-row :
-          m .refused ≡ false → {ts : List Float} {ss : List ℕ} {vs : List Float} → ts ≡ put (start .rows) (s ∷ []) (c .times) → ss ≡ put (start .rows) (2 ∷ []) (c .sides)
+          m .reply ≡ Done → {ts : List Float} {ss : List ℕ} {vs : List Float} → ts ≡ put (start .rows) (s ∷ []) (c .times) → ss ≡ put (start .rows) (2 ∷ []) (c .sides)
           → vs ≡ put (start .rows * n) (take n (m .amounts)) (c .values)
-          → Ran advance n start (reading t r s ∷ []) c (record { stopped = false; number = 0; time = plusZero; amounts = start .amounts; left = start .left - 1; made = start .made + 1; rows = start .rows + 1 }) (cells ts ss vs)
+          → Ran advance n start (reading t r s ∷ []) c (record { reply = Done; time = plusZero; amounts = start .amounts; left = start .left - 1; made = start .made + 1; rows = start .rows + 1 }) (cells ts ss vs)
       read-row f a b v = rw (a, b, v) (read-done f)
 
   -- ---- the advance to the next boundary
   module _ (t : Float) (r : List Float) (u : Float) where
     pub arrive-spent :
         start .left ≡ 0
-        → Ran advance n start (arrive t r u ∷ []) c (record { stopped = true; number = 30; time = u; amounts = start .amounts; left = 0; made = start .made + 1; rows = start .rows }) c
+        → Ran advance n start (arrive t r u ∷ []) c (record { reply = Refused R.PropagationBudget; time = u; amounts = start .amounts; left = 0; made = start .made + 1; rows = start .rows }) c
     unfolding after run execute propagate
     arrive-spent z = record { progress = rw (z, add-zero (start .rows)); cells = rw z }
 
     module _ (m : Move) (g : 0 < start .left) (e : movedOf n m ≡ advance (take n (start .amounts)) r (sub binary64 u t)) where
       pub arrive-refused :
-          m .refused ≡ true
-          → Ran advance n start (arrive t r u ∷ []) c (record { stopped = true; number = m .number; time = u; amounts = start .amounts; left = start .left - 1; made = start .made + 1; rows = start .rows }) c
+          (x : Refusal) → m .reply ≡ Refused x
+          → Ran advance n start (arrive t r u ∷ []) c (record { reply = Refused x; time = u; amounts = start .amounts; left = start .left - 1; made = start .made + 1; rows = start .rows }) c
       unfolding after run execute propagate
-      arrive-refused f = record { progress = rw (lt-ltb 0 (start .left) g, ← e, f, add-zero (start .rows)); cells = rw (lt-ltb 0 (start .left) g, ← e, f) }
+      arrive-refused x f = record { progress = rw (lt-ltb 0 (start .left) g, ← e, f, add-zero (start .rows)); cells = rw (lt-ltb 0 (start .left) g, ← e, f) }
 
       pub arrive-done :
-          m .refused ≡ false
-          → Ran advance n start (arrive t r u ∷ []) c (record { stopped = false; number = 0; time = plusZero; amounts = m .amounts; left = start .left - 1; made = start .made + 1; rows = start .rows }) c
+          m .reply ≡ Done
+          → Ran advance n start (arrive t r u ∷ []) c (record { reply = Done; time = plusZero; amounts = m .amounts; left = start .left - 1; made = start .made + 1; rows = start .rows }) c
       unfolding after run execute propagate
       arrive-done f = record { progress = rw (lt-ltb 0 (start .left) g, ← e, f, add-zero (start .rows)); cells = rw (lt-ltb 0 (start .left) g, ← e, f) }
 
   -- ---- the summed rates
   pub rates-refused :
       (r : List Float) → all finite r ≡ false
-      → Ran advance n start (rates r ∷ []) c (record { stopped = true; number = 32; time = plusZero; amounts = start .amounts; left = start .left; made = start .made; rows = start .rows }) c
+      → Ran advance n start (rates r ∷ []) c (record { reply = Refused R.SummedRates; time = plusZero; amounts = start .amounts; left = start .left; made = start .made; rows = start .rows }) c
   unfolding after run execute
   rates-refused r h = record { progress = rw (h, sub-zero (start .left), add-zero (start .made), add-zero (start .rows)); cells = rw h }
 
   pub rates-pass :
       (r : List Float) → all finite r ≡ true
-      → Ran advance n start (rates r ∷ []) c (record { stopped = false; number = 0; time = plusZero; amounts = start .amounts; left = start .left; made = start .made; rows = start .rows }) c
+      → Ran advance n start (rates r ∷ []) c (record { reply = Done; time = plusZero; amounts = start .amounts; left = start .left; made = start .made; rows = start .rows }) c
   unfolding after run execute
   rates-pass r h = record { progress = rw (h, sub-zero (start .left), add-zero (start .made), add-zero (start .rows)); cells = rw h }

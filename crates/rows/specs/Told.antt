@@ -1,12 +1,15 @@
 -- Where a part of the schedule comes to, and the rows that it makes: what a block of the run's code gives. Definitions only.
 use mathlib.Core.Path.{_≡_}
 use Prim.Native.Nat.{ℕ, _+_, _-_, _≤_}
-use mathlib.Core.Bool.{Bool, true, false, cond}
+use mathlib.Core.Bool.{Bool, true, false}
 use mathlib.Core.List.{List}
 use lib.ListN.{length, take}
 use lib.Ieee.{Float}
 use Rattle.binary64.specs.Doubles.{plusZero}
-use Rattle.refusal.specs.Result.{Result, refused, done}
+use Rattle.refusal.specs.Result.{Result}
+use Rattle.refusal.specs.Numbers.{replyNumber, resultOf}
+use Rattle.refusal.specs.declared.Reply.{Reply}
+use Rattle.refusal.specs.declared.Reply.the-variants.{Done, Refused}
 use Rattle.matrix.specs.Exponential.{scheme}
 use Rattle.linear_pk.specs.declared.kernel.LinearPk.{LinearPk}
 use Rattle.linear_pk.specs.LinearPk.{advance}
@@ -17,7 +20,11 @@ use Rattle.rows.specs.Written.{Cells, written, Room}
 use Rattle.rows.specs.declared.Progress.{Progress}
 use Rattle.rows.specs.declared.Move.{Move}
 
--- a progress, with the amounts as a list
+abbrev pub isRefused : Reply → Bool
+isRefused Done = false
+isRefused (Refused r) = true
+
+-- a progress, with 01's number of its refusal and the amounts as a list
 pub record Told : Type 0 where
   pub stopped : Bool
   pub number : ℕ
@@ -29,7 +36,7 @@ pub record Told : Type 0 where
 
 -- a progress of n states: the array's cells behind the n amounts do not matter
 abbrev pub told : ℕ → Progress → Told
-told n p = record { stopped = p .stopped; number = p .number; time = p .time; amounts = take n (p .amounts); left = p .left; made = p .made; rows = p .rows }
+told n p = record { stopped = isRefused (p .reply); number = replyNumber (p .reply); time = p .time; amounts = take n (p .amounts); left = p .left; made = p .made; rows = p .rows }
 
 -- an outcome, behind what was made and written so far
 abbrev pub behindOf : Told → Outcome → Told
@@ -73,4 +80,4 @@ kernelAdvance k n a r d = advance scheme k a r d n
 
 -- what the code's advance gives
 abbrev pub movedOf : ℕ → Move → Result (List Float)
-movedOf n m = cond (m .refused) (refused (m .number)) (done (take n (m .amounts)))
+movedOf n m = resultOf (m .reply) (take n (m .amounts))

@@ -1,18 +1,19 @@
 // The blocks of a run: a row written into lent slices, the kernel's advance and the arrival at a boundary.
 use linear_pk::LinearPk;
 use matrix::STATES;
+use refusal::Refusal;
+use refusal::Reply;
 ghost use mathlib.Core.Path.{_≡_};
 ghost use mathlib.Core.List.{[], _∷_, _++_};
 ghost use Prim.Native.Nat.{ℕ, _+_, _*_, _≤_, _<_};
 ghost use lib.ListN.{length, take, drop};
 ghost use Rattle.protocol.specs.Schedule.{arrive as arrives};
 ghost use Rattle.rows.specs.Written.{Cells, put};
-ghost use Rattle.rows.specs.Told.{kernelAdvance, movedOf, Ran};
+ghost use Rattle.rows.specs.Told.{isRefused, kernelAdvance, movedOf, Ran};
 
-// Where a run has come to: whether it stopped, by which number and at which time; the amounts, what is left of the budget of advances, the advances made, and the rows written.
+// Where a run has come to: whether it was refused and at which time; the amounts, what is left of the budget of advances, the advances made, and the rows written.
 pub struct Progress {
-    pub stopped: bool,
-    pub number: u64,
+    pub reply: Reply,
     pub time: f64,
     pub amounts: [f64; STATES],
     pub left: u64,
@@ -20,10 +21,22 @@ pub struct Progress {
     pub rows: usize,
 }
 
-// What the kernel's advance gives: amounts, or a number.
+impl Progress {
+    // Whether a refusal stopped the run.
+    pub fn stopped(self) -> bool
+        ensures { λ r. ⌜ r ≡ isRefused (self .reply) ⌝ }
+    {
+        let reply = self.reply;
+        match reply {
+            Reply::Done => false,
+            Reply::Refused(_) => true,
+        }
+    }
+}
+
+// What the kernel's advance gives: amounts, or a refusal.
 pub struct Move {
-    pub refused: bool,
-    pub number: u64,
+    pub reply: Reply,
     pub amounts: [f64; STATES],
 }
 
@@ -76,17 +89,8 @@ pub fn propagate(
     let from = &amounts[..n];
     let input = &rates[..n];
     let reply = kernel.advance(from, input, duration, &mut next[..n]);
-    let number = refusal::number(reply);
-    if number == 0 {
-        return Move {
-            refused: false,
-            number: 0,
-            amounts: next,
-        };
-    }
     Move {
-        refused: true,
-        number: number,
+        reply,
         amounts: next,
     }
 }
@@ -109,8 +113,7 @@ pub fn arrive(
     let row = start.rows;
     if left == 0 {
         return Progress {
-            stopped: true,
-            number: 30,
+            reply: Reply::Refused(Refusal::PropagationBudget),
             time: u,
             amounts: amounts,
             left: 0,
@@ -119,25 +122,26 @@ pub fn arrive(
         };
     }
     let m = propagate(kernel, n, amounts, rates, u - t);
-    if m.refused {
-        return Progress {
-            stopped: true,
-            number: m.number,
+    let reply = m.reply;
+    match reply {
+        Reply::Refused(refusal) => Progress {
+            reply: Reply::Refused(refusal),
             time: u,
             amounts: amounts,
             left: left - 1,
             made: made,
             rows: row,
-        };
-    }
-    let reached = m.amounts;
-    Progress {
-        stopped: false,
-        number: 0,
-        time: 0.0,
-        amounts: reached,
-        left: left - 1,
-        made: made,
-        rows: row,
+        },
+        Reply::Done => {
+            let reached = m.amounts;
+            Progress {
+                reply: Reply::Done,
+                time: 0.0,
+                amounts: reached,
+                left: left - 1,
+                made: made,
+                rows: row,
+            }
+        }
     }
 }

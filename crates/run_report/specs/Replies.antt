@@ -14,7 +14,7 @@ room times sides values = record { times = times; sides = sides; values = values
 -- what the code replies, case by case
 abbrev pub runReply : RunReply → Reply
 runReply (Refused r) = record { number = refusalNumber r; time = plusZero; rows = 0; advances = 0 }
-runReply (Stopped c t m) = record { number = c; time = t; rows = 0; advances = m }
+runReply (Stopped r t m) = record { number = refusalNumber r; time = t; rows = 0; advances = m }
 runReply (Reached r m) = record { number = 0; time = plusZero; rows = r; advances = m }
 
 -- as numbers

@@ -8,9 +8,9 @@ ghost use Rattle.run_report.specs.Replies.{runReply, reported};
 pub enum RunReply {
     // Refused ahead of the run.
     Refused(Refusal),
-    // Stopped by a number at a time; the advances made, the refused one counted.
+    // Stopped by a refusal at a time; the advances made, the refused one counted.
     Stopped {
-        number: u64,
+        refusal: Refusal,
         time: f64,
         advances: u64,
     },
@@ -40,15 +40,18 @@ pub fn report_of(reply: RunReply) -> Report
             advances: 0,
         },
         RunReply::Stopped {
-            number,
+            refusal,
             time,
             advances,
-        } => Report {
-            number,
-            time,
-            rows: 0,
-            advances,
-        },
+        } => {
+            let number = refusal::number(Reply::Refused(refusal));
+            Report {
+                number,
+                time,
+                rows: 0,
+                advances,
+            }
+        }
         RunReply::Reached { rows, advances } => Report {
             number: 0,
             time: 0.0,

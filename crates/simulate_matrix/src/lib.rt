@@ -3,6 +3,7 @@ use events::EVENTS;
 use linear_pk::LinearPk;
 use matrix::STATES;
 use protocol::Window;
+use refusal::Reply;
 use rows::Progress;
 ghost use mathlib.Core.Path.{_≡_};
 ghost use mathlib.Core.Option.{none};
@@ -56,8 +57,7 @@ pub fn on_schedule(
     let read = distinct(samples, readings);
     let reached = boundaries::boundaries(window, reals, words, count, bounds);
     let start = Progress {
-        stopped: false,
-        number: 0,
+        reply: Reply::Done,
         time: 0.0,
         amounts: initial,
         left: window.propagations,

@@ -8,6 +8,8 @@ use lib.ListN.{length, take, drop, length-map}
 use lib.Ieee.{Float}
 use Rattle.binary64.specs.Doubles.{plusZero}
 use Rattle.refusal.specs.Result.{refused, done}
+use Rattle.refusal.specs.Numbers.{refusalNumber}
+use Rattle.refusal.specs.declared.Refusal.{Refusal}
 use Rattle.linear_pk.specs.LinearPk.{sound, stateCount}
 use Rattle.linear_pk.specs.declared.kernel.LinearPk.{LinearPk}
 use Rattle.protocol.specs.Entry.{mostSamples}
@@ -29,7 +31,7 @@ use Rattle.steady_reply.specs.Entry.{steadyEntry, steadyReply}
 use Rattle.steady_reply.specs.Replies.{Answers}
 
 -- ---- a refusal leaves the slices as they were; an answer stands at their front
-pub refuses : {o : Timed Solved} {r : SteadyReply} {c : ℕ} {t : Float} (a e : List Float) → r ≡ P.Refused c t → stopped c t ≡ o → Answers o r a e a e
+pub refuses : {o : Timed Solved} {r : SteadyReply} {x : Refusal} {t : Float} (a e : List Float) → r ≡ P.Refused x t → stopped (refusalNumber x) t ≡ o → Answers o r a e a e
 refuses a e q p = record {
   reply = ap steadyReply q ∙ ap steadyReplyOf p;
   amounts = ap (λ (x : Timed Solved). answerAtExit (λ s. s .amounts) x a) p;

@@ -6,6 +6,7 @@ use lib.Dec.{leb}
 use lib.ListN.{length, take}
 use lib.Ieee.{Float}
 use Rattle.binary64.specs.Doubles.{plusZero}
+use Rattle.refusal.specs.Numbers.{refusalNumber}
 use Rattle.linear_pk.specs.LinearPk.{sound, stateCount}
 use Rattle.linear_pk.specs.declared.kernel.LinearPk.{LinearPk}
 use Rattle.protocol.specs.Entry.{mostSamples}
@@ -30,5 +31,5 @@ steadyEntry k w ss es count tol room =
 
 -- what the code replies, case by case
 abbrev pub steadyReply : SteadyReply → C.SteadyReply
-steadyReply (Refused c t) = record { number = c; time = t; greatest = plusZero }
+steadyReply (Refused r t) = record { number = refusalNumber r; time = t; greatest = plusZero }
 steadyReply (Solved m) = record { number = 0; time = plusZero; greatest = m }

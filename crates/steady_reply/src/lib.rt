@@ -1,29 +1,24 @@
 // What a closed cycle replies, its refusals without a time, and the writing of its answers.
 use matrix::STATES;
 use refusal::Refusal;
-use refusal::Reply;
 ghost use mathlib.Core.Path.{_≡_};
 ghost use mathlib.Core.List.{_++_};
 ghost use Prim.Native.Nat.{_≤_};
 ghost use lib.ListN.{length, take, drop};
 ghost use Rattle.binary64.specs.Doubles.{plusZero};
-ghost use Rattle.refusal.specs.Numbers.{refusalNumber};
 
 // What a closed cycle replies.
 pub enum SteadyReply {
-    // By a number at a time.
-    Refused { number: u64, time: f64 },
+    // At a time.
+    Refused { refusal: Refusal, time: f64 },
     // The greatest scaled residual.
     Solved { maximum: f64 },
 }
 
 pub fn refused(refusal: Refusal) -> SteadyReply
-    ensures { λ r. ⌜ r ≡ SteadyReply.Refused (refusalNumber refusal) plusZero ⌝ }
+    ensures { λ r. ⌜ r ≡ SteadyReply.Refused refusal plusZero ⌝ }
 {
-    SteadyReply::Refused {
-        number: refusal::number(Reply::Refused(refusal)),
-        time: 0.0,
-    }
+    SteadyReply::Refused { refusal, time: 0.0 }
 }
 
 // The first n values from the front of out; the cells behind them stay.

@@ -1,5 +1,6 @@
 // The printout of a closed cycle's reply.
 use printout_reply::PrintReply;
+use refusal::Reply;
 use steady_printout::print_steady;
 use steady_reply::SteadyReply;
 ghost use Prim.Native.Nat.{_≤_};
@@ -20,7 +21,8 @@ pub fn print_reply(
     ensures { λ r. ⌜ Prints (printoutOf (steadyReply reply) n (now (amounts .entry)) (now (residual .entry))) (now (out .entry)) r (now (out .exit)) ⌝ }
 {
     match reply {
-        SteadyReply::Refused { number, time } => {
+        SteadyReply::Refused { refusal, time } => {
+            let number = refusal::number(Reply::Refused(refusal));
             let length = print_steady(number, time, n, 0.0, amounts, residual, out);
             printout_reply::reply_of(number, length)
         }

@@ -2,6 +2,7 @@
 use cycle::SteadyStateTolerance;
 use linear_pk::LinearPk;
 use protocol::Window;
+use refusal::Reply;
 use steady_reply::SteadyReply;
 ghost use mathlib.Core.Path.{_≡_};
 ghost use lib.ListN.{length};
@@ -23,11 +24,14 @@ fn report_of(reply: SteadyReply) -> SteadyReport
     ensures { λ r. ⌜ reported r ≡ steadyReply reply ⌝ }
 {
     match reply {
-        SteadyReply::Refused { number, time } => SteadyReport {
-            number,
-            time,
-            maximum: 0.0,
-        },
+        SteadyReply::Refused { refusal, time } => {
+            let number = refusal::number(Reply::Refused(refusal));
+            SteadyReport {
+                number,
+                time,
+                maximum: 0.0,
+            }
+        }
         SteadyReply::Solved { maximum } => SteadyReport {
             number: 0,
             time: 0.0,

@@ -1,11 +1,11 @@
 -- What the code's columns and its reply stand for. Definitions only.
-use mathlib.Core.Bool.{cond}
 use mathlib.Core.List.{List, []}
 use Prim.Native.Nat.{ℕ}
 use lib.ListN.{getD, take}
 use lib.Ieee.{Float}
 use Rattle.matrix.specs.Matrix.{tabulate}
-use Rattle.cycle.specs.Closed.{Timed, stopped, got}
+use Rattle.cycle.specs.Closed.{Timed}
+use Rattle.cycle_run.specs.Ends.{timedOf}
 use Rattle.unit_columns.specs.declared.ColumnsReply.{ColumnsReply}
 
 -- the first j columns, of n amounts each: column i is row i of the array
@@ -14,4 +14,4 @@ columnsOf n cs j = tabulate j (λ (i : ℕ). take n (getD cs i []))
 
 -- the columns of the unit amounts
 abbrev pub columnsEnd : ℕ → ColumnsReply → List (List Float) → Timed (List (List Float))
-columnsEnd n r cs = cond (r .stopped) (stopped (r .number) (r .time)) (got (columnsOf n cs n))
+columnsEnd n r cs = timedOf (r .reply) (r .time) (columnsOf n cs n)

@@ -3,6 +3,7 @@ use events::EVENTS;
 use linear_pk::LinearPk;
 use matrix::STATES;
 use protocol::Window;
+use refusal::Reply;
 ghost use mathlib.Core.Path.{_≡_};
 ghost use Prim.Native.Nat.{_≤_};
 ghost use lib.ListN.{length};
@@ -12,10 +13,9 @@ ghost use Rattle.cycle.specs.Closed.{homogeneous as homogeneousOf, columnsTo};
 ghost use Rattle.cycle_run.specs.Ends.{Runs};
 ghost use Rattle.unit_columns.specs.Columns.{columnsEnd};
 
-// Whether a run from a unit amount stopped, by a number at a time.
+// Whether a run from a unit amount was stopped by a refusal, and at which time.
 pub struct ColumnsReply {
-    pub stopped: bool,
-    pub number: u64,
+    pub reply: Reply,
     pub time: f64,
 }
 
@@ -43,19 +43,22 @@ pub fn columns(
             words,
             count,
         );
-        if end.stopped {
-            return ColumnsReply {
-                stopped: true,
-                number: end.number,
-                time: end.time,
-            };
+        let reply = end.reply;
+        match reply {
+            Reply::Refused(refusal) => {
+                return ColumnsReply {
+                    reply: Reply::Refused(refusal),
+                    time: end.time,
+                };
+            }
+            Reply::Done => {
+                let amounts = end.amounts;
+                columns[j] = amounts;
+            }
         }
-        let amounts = end.amounts;
-        columns[j] = amounts;
     }
     ColumnsReply {
-        stopped: false,
-        number: 0,
+        reply: Reply::Done,
         time: 0.0,
     }
 }

@@ -11,10 +11,10 @@ returns : tie.Need-returns
 unfolding ofBits
 returns c =
     let e = c .not-accepted .ensures in
-    let g = c .before .before .before .before .before .before .args in
-    rw (e .0, e .1, e .2, c .before .number .ensures)
+    let g = c .before .before .before .before .before .args in
+    rw (e .0, e .1)
     (ap (λ (r : Timed Float). then r (λ m. got (record { amounts = take (g .n) (g .candidate); residuals = residualsOf (g .n) (take (g .n) (g .candidate)) (take (g .n) (g .end)); greatest = m })))
-    (rw (c .before .before .before .reply .given .1) at (c .before .before .before .before .before .greatest .ensures)))
+    (rw (c .before .before .reply .given .1) at (c .before .before .before .before .greatest .ensures)))
 
 returns-2 : tie.Need-returns-2
 returns-2 c =
@@ -27,5 +27,5 @@ pub judged-spec : {M : Type 1} → statement M
 judged-spec =
     tie.close
     (tie.spec
-    (λ c κs. search needs) (λ c. search needs) (λ c κs. search needs) (λ c κs. search needs) (λ c. search needs)
-    (λ c κs. search needs) returns returns-2)
+    (λ c κs. search needs) (λ c. search needs) (λ c κs. search needs) (λ c. search needs) (λ c κs. search needs) returns
+    returns-2)

@@ -1,4 +1,5 @@
 -- `between_boundaries::read_all` meets its contract. The invariant: the readings among the first k samples are made.
+use mathlib.Core.Path.{sym, _∙_}
 use borrow.Author.Needs.{needs}
 use Prim.Native.Nat.{_-_}
 use mathlib.Core.Logic.{⊎-elim}
@@ -26,23 +27,23 @@ unfolding ofBits
 read-requires c κs = through-fits (c .before .before .before .before .before .before .before .loop .inv) (c .before .before .before .before .before .before .loop-test .taken) (c .before .before .before .before .if1 .taken) (c .before .before .before .if2 .taken) (fits-fresh (c .before .before .before .before .before .before .before .before .before .before .before .before .before .pre))
 
 same-length : tie.Need-same-length Inv-loop μ-loop
-same-length c = ran-same (through-stops (c .before .before .before .before .before .before .before .before .before .before .before .before .before .before .before .loop .inv) (c .before .before .before .before .before .before .before .before .before .before .before .before .before .before .loop-test .taken) (c .before .before .before .before .before .before .before .before .before .before .before .before .if1 .taken) (c .before .before .before .before .before .before .before .before .before .before .before .if2 .taken) (c .before .before .before .before .before .before .before .read .ensures) (c .if3 .taken)) .times
+same-length c = ran-same (through-stops (c .before .before .before .before .before .before .before .before .before .before .before .before .before .before .before .before .loop .inv) (c .before .before .before .before .before .before .before .before .before .before .before .before .before .before .before .loop-test .taken) (c .before .before .before .before .before .before .before .before .before .before .before .before .before .if1 .taken) (c .before .before .before .before .before .before .before .before .before .before .before .before .if2 .taken) (c .before .before .before .before .before .before .before .before .read .ensures) (sym (c .before .stopped .ensures) ∙ c .if3 .taken)) .times
 
 same-length-2 : tie.Need-same-length-2 Inv-loop μ-loop
-same-length-2 c = ran-same (through-stops (c .before .before .before .before .before .before .before .before .before .before .before .before .before .before .before .loop .inv) (c .before .before .before .before .before .before .before .before .before .before .before .before .before .before .loop-test .taken) (c .before .before .before .before .before .before .before .before .before .before .before .before .if1 .taken) (c .before .before .before .before .before .before .before .before .before .before .before .if2 .taken) (c .before .before .before .before .before .before .before .read .ensures) (c .if3 .taken)) .sides
+same-length-2 c = ran-same (through-stops (c .before .before .before .before .before .before .before .before .before .before .before .before .before .before .before .before .loop .inv) (c .before .before .before .before .before .before .before .before .before .before .before .before .before .before .before .loop-test .taken) (c .before .before .before .before .before .before .before .before .before .before .before .before .before .if1 .taken) (c .before .before .before .before .before .before .before .before .before .before .before .before .if2 .taken) (c .before .before .before .before .before .before .before .before .read .ensures) (sym (c .before .stopped .ensures) ∙ c .if3 .taken)) .sides
 
 same-length-3 : tie.Need-same-length-3 Inv-loop μ-loop
-same-length-3 c = ran-same (through-stops (c .before .before .before .before .before .before .before .before .before .before .before .before .before .before .before .loop .inv) (c .before .before .before .before .before .before .before .before .before .before .before .before .before .before .loop-test .taken) (c .before .before .before .before .before .before .before .before .before .before .before .before .if1 .taken) (c .before .before .before .before .before .before .before .before .before .before .before .if2 .taken) (c .before .before .before .before .before .before .before .read .ensures) (c .if3 .taken)) .values
+same-length-3 c = ran-same (through-stops (c .before .before .before .before .before .before .before .before .before .before .before .before .before .before .before .before .loop .inv) (c .before .before .before .before .before .before .before .before .before .before .before .before .before .before .before .loop-test .taken) (c .before .before .before .before .before .before .before .before .before .before .before .before .before .if1 .taken) (c .before .before .before .before .before .before .before .before .before .before .before .before .if2 .taken) (c .before .before .before .before .before .before .before .before .read .ensures) (sym (c .before .stopped .ensures) ∙ c .if3 .taken)) .values
 
 returns : tie.Need-returns Inv-loop μ-loop
 unfolding ofBits
-returns c = ran-fresh (through-stops (c .before .before .before .before .before .before .before .before .before .before .before .before .before .before .before .loop .inv) (c .before .before .before .before .before .before .before .before .before .before .before .before .before .before .loop-test .taken) (c .before .before .before .before .before .before .before .before .before .before .before .before .if1 .taken) (c .before .before .before .before .before .before .before .before .before .before .before .if2 .taken) (c .before .before .before .before .before .before .before .read .ensures) (c .if3 .taken))
+returns c = ran-fresh (through-stops (c .before .before .before .before .before .before .before .before .before .before .before .before .before .before .before .before .loop .inv) (c .before .before .before .before .before .before .before .before .before .before .before .before .before .before .before .loop-test .taken) (c .before .before .before .before .before .before .before .before .before .before .before .before .before .if1 .taken) (c .before .before .before .before .before .before .before .before .before .before .before .before .if2 .taken) (c .before .before .before .before .before .before .before .before .read .ensures) (sym (c .before .stopped .ensures) ∙ c .if3 .taken))
 
 loop-again : tie.Need-loop-again Inv-loop μ-loop
 loop-again c =
     let h = c .before .before .before .loop .inv in
     let k = c .before .before .loop-test .taken in
-    ⊎-elim (λ w. rw (w .13, w .14, w .15, w .16) (through-more h k (w .0 .taken) (w .1 .taken) (w .5 .ensures) (w .12 .left)))
+    ⊎-elim (λ w. rw (w .14, w .15, w .16, w .17) (through-more h k (w .0 .taken) (w .1 .taken) (w .5 .ensures) (sym (w .12 .ensures) ∙ w .13 .left)))
     (⊎-elim (λ w. rw (w .2, w .3, w .4, w .5) (through-late h k (w .0 .taken) (w .1 .left)))
     (λ w. rw (w .1, w .2, w .3, w .4) (through-early h k (w .0 .left))))
     (c .if1 .came)
@@ -64,5 +65,5 @@ pub read-all-spec : {M : Type 1} → statement M
 read-all-spec =
     tie.close
     (tie.spec
-    Inv-loop μ-loop loop-holds (λ c. search needs) (λ c. search needs) read-requires same-length same-length-2 same-length-3
+    Inv-loop μ-loop loop-holds (λ c. search needs) (λ c. search needs) read-requires (λ c κs. search needs) same-length same-length-2 same-length-3
     returns (λ c. search needs) (λ c. search needs) loop-again same-length-4 same-length-5 same-length-6 returns-2)

@@ -13,10 +13,10 @@ returns : tie.Need-returns
 unfolding ofBits
 returns c =
     let e = c .not-solved .ensures in
-    let g = c .before .before .before .before .before .before .before .args in
-    rw (e .0, e .1, e .2, c .before .number .ensures)
-    (ap untimed (rw (c .before .before .before .reply .given .1) at (c .before .before .before .before .before .solve .ensures)
-    ∙ ap (solve (g .n)) (system-is (g .n) (g .columns .now) (c .before .before .before .before .before .before .system .result) (take (g .n) (g .offset)) (c .before .before .before .before .before .before .system .ensures))))
+    let g = c .before .before .before .before .before .before .args in
+    rw (e .0, e .1)
+    (ap untimed (rw (c .before .before .reply .given .1) at (c .before .before .before .before .solve .ensures)
+    ∙ ap (solve (g .n)) (system-is (g .n) (g .columns .now) (c .before .before .before .before .before .system .result) (take (g .n) (g .offset)) (c .before .before .before .before .before .system .ensures))))
 
 returns-2 : tie.Need-returns-2
 returns-2 c =
@@ -28,5 +28,5 @@ pub eliminated-spec : {M : Type 1} → statement M
 eliminated-spec =
     tie.close
     (tie.spec
-    (λ c κs. search needs) (λ c κs. search needs) (λ c. search needs) (λ c κs. search needs) (λ c κs. search needs)
-    (λ c. search needs) returns returns-2)
+    (λ c κs. search needs) (λ c κs. search needs) (λ c. search needs) (λ c κs. search needs) (λ c. search needs) returns
+    returns-2)

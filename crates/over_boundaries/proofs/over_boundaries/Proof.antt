@@ -1,5 +1,5 @@
 -- `over_boundaries::over_boundaries` meets its contract. The invariant: what has run so far, and what is left of the schedule.
-use mathlib.Core.Path.{_≡_, refl, _∙_}
+use mathlib.Core.Path.{_≡_, refl, sym, _∙_}
 use borrow.Author.Needs.{needs}
 use native.Mathlib.Omega.{arith}
 use Prim.Native.Nat.{_≤_, _-_}
@@ -35,7 +35,7 @@ at-boundary-requires c κs = (c .before .before .before .before .before .before 
 
 returns : tie.Need-returns Inv-loop μ-loop
 unfolding ofBits
-returns c = ran-fresh (here-stopped _ _ _ _ _ _ _ _ _ _ _ (c .before .before .before .before .before .before .before .before .before .before .before .before .before .loop .inv .0) (omega arith) (c .before .before .before .before .before .before .before .at-boundary .ensures (kernelAdvance (c .before .before .before .before .before .before .before .before .before .before .before .before .before .before .before .before .before .before .before .before .args .kernel) (c .before .before .before .before .before .before .before .before .before .before .before .before .before .before .before .before .before .before .before .before .args .n))) (c .if1 .taken))
+returns c = ran-fresh (here-stopped _ _ _ _ _ _ _ _ _ _ _ (c .before .before .before .before .before .before .before .before .before .before .before .before .before .before .loop .inv .0) (omega arith) (c .before .before .before .before .before .before .before .before .at-boundary .ensures (kernelAdvance (c .before .before .before .before .before .before .before .before .before .before .before .before .before .before .before .before .before .before .before .before .before .args .kernel) (c .before .before .before .before .before .before .before .before .before .before .before .before .before .before .before .before .before .before .before .before .before .args .n))) (sym (c .before .stopped .ensures) ∙ c .if1 .taken))
 
 same-length : tie.Need-same-length Inv-loop μ-loop
 same-length c = ran-same (returns c) .times
@@ -47,20 +47,20 @@ same-length-3 : tie.Need-same-length-3 Inv-loop μ-loop
 same-length-3 c = ran-same (returns c) .values
 
 add-u : tie.Need-add-u Inv-loop μ-loop
-add-u c = omega (arith, c .before .before .before .before .before .before .before .before .before .before .before .before .before .before .before .before .loop-test .taken, c .before .before .before .before .before .before .before .before .before .before .before .before .before .before .before .before .before .before .before .before .before .before .before .before .good .1 .1 .1 .1 .1 .0 .0)
+add-u c = omega (arith, c .before .before .before .before .before .before .before .before .before .before .before .before .before .before .before .before .before .loop-test .taken, c .before .before .before .before .before .before .before .before .before .before .before .before .before .before .before .before .before .before .before .before .before .before .before .before .before .good .1 .1 .1 .1 .1 .0 .0)
 
 mul-u : tie.Need-mul-u Inv-loop μ-loop
-mul-u c = omega (arith, c .before .before .before .before .before .before .before .before .before .before .before .before .before .before .before .before .loop-test .taken, c .before .before .before .before .before .before .before .before .before .before .before .before .before .before .before .before .before .before .before .before .before .before .before .before .good .1 .1 .1 .1 .1 .0 .1)
+mul-u c = omega (arith, c .before .before .before .before .before .before .before .before .before .before .before .before .before .before .before .before .before .loop-test .taken, c .before .before .before .before .before .before .before .before .before .before .before .before .before .before .before .before .before .before .before .before .before .before .before .before .before .good .1 .1 .1 .1 .1 .0 .1)
 
 shared-slice-read-u : tie.Need-shared-slice-read-u Inv-loop μ-loop
-shared-slice-read-u c = omega (arith, c .before .before .before .before .before .before .before .before .before .before .before .before .before .before .before .before .before .loop-test .taken)
+shared-slice-read-u c = omega (arith, c .before .before .before .before .before .before .before .before .before .before .before .before .before .before .before .before .before .before .loop-test .taken)
 
 on-interval-requires : tie.Need-on-interval-requires Inv-loop μ-loop
-on-interval-requires c κs = code-room _ _ _ _ _ _ _ _ _ _ _ (c .before .before .before .before .before .before .before .before .before .before .before .before .before .before .before .before .before .before .before .before .before .loop .inv .0) (omega arith) (c .before .before .before .before .before .before .before .before .before .before .before .before .before .before .before .at-boundary .ensures (kernelAdvance (c .before .before .before .before .before .before .before .before .before .before .before .before .before .before .before .before .before .before .before .before .before .before .before .before .before .before .before .before .args .kernel) (c .before .before .before .before .before .before .before .before .before .before .before .before .before .before .before .before .before .before .before .before .before .before .before .before .before .before .before .before .args .n))) (c .before .before .before .before .before .before .mark .ensures .1) (c .before .before .before .before .summed-rates .ensures)
+on-interval-requires c κs = code-room _ _ _ _ _ _ _ _ _ _ _ (c .before .before .before .before .before .before .before .before .before .before .before .before .before .before .before .before .before .before .before .before .before .before .loop .inv .0) (omega arith) (c .before .before .before .before .before .before .before .before .before .before .before .before .before .before .before .before .at-boundary .ensures (kernelAdvance (c .before .before .before .before .before .before .before .before .before .before .before .before .before .before .before .before .before .before .before .before .before .before .before .before .before .before .before .before .before .args .kernel) (c .before .before .before .before .before .before .before .before .before .before .before .before .before .before .before .before .before .before .before .before .before .before .before .before .before .before .before .before .before .args .n))) (c .before .before .before .before .before .before .mark .ensures .1) (c .before .before .before .before .summed-rates .ensures)
 
 returns-2 : tie.Need-returns-2 Inv-loop μ-loop
 unfolding ofBits
-returns-2 c = ran-fresh (code-stopped _ _ _ _ _ _ _ _ _ _ _ (c .before .before .before .before .before .before .before .before .before .before .before .before .before .before .before .before .before .before .before .before .before .before .before .before .before .before .before .before .before .loop .inv .0) (omega (arith, c .before .before .before .before .before .before .before .before .before .before .before .before .before .before .before .before .before .before .before .before .before .before .before .before .before .before .before .before .loop-test .taken, c .before .before .before .before .before .before .before .before .before .before .before .before .before .before .before .before .before .before .before .before .before .before .before .before .before .before .before .before .before .before .before .before .before .before .before .before .pre .1)) (c .before .before .before .before .before .before .before .before .before .before .before .before .before .before .before .before .before .before .before .before .before .before .before .at-boundary .ensures (kernelAdvance (c .before .before .before .before .before .before .before .before .before .before .before .before .before .before .before .before .before .before .before .before .before .before .before .before .before .before .before .before .before .before .before .before .before .before .before .before .args .kernel) (c .before .before .before .before .before .before .before .before .before .before .before .before .before .before .before .before .before .before .before .before .before .before .before .before .before .before .before .before .before .before .before .before .before .before .before .before .args .n))) (c .before .before .before .before .before .before .before .before .before .before .before .before .before .before .mark .ensures .1) (c .before .before .before .before .before .before .before .before .before .before .before .before .summed-rates .ensures) (c .before .before .before .before .before .before .before .before .before .before .before .before .before .before .before .before .if1 .left) (c .before .before .before .before .before .before .before .on-interval .ensures) (c .if2 .taken))
+returns-2 c = ran-fresh (code-stopped _ _ _ _ _ _ _ _ _ _ _ (c .before .before .before .before .before .before .before .before .before .before .before .before .before .before .before .before .before .before .before .before .before .before .before .before .before .before .before .before .before .before .before .loop .inv .0) (omega (arith, c .before .before .before .before .before .before .before .before .before .before .before .before .before .before .before .before .before .before .before .before .before .before .before .before .before .before .before .before .before .before .loop-test .taken, c .before .before .before .before .before .before .before .before .before .before .before .before .before .before .before .before .before .before .before .before .before .before .before .before .before .before .before .before .before .before .before .before .before .before .before .before .before .before .pre .1)) (c .before .before .before .before .before .before .before .before .before .before .before .before .before .before .before .before .before .before .before .before .before .before .before .before .before .at-boundary .ensures (kernelAdvance (c .before .before .before .before .before .before .before .before .before .before .before .before .before .before .before .before .before .before .before .before .before .before .before .before .before .before .before .before .before .before .before .before .before .before .before .before .before .before .args .kernel) (c .before .before .before .before .before .before .before .before .before .before .before .before .before .before .before .before .before .before .before .before .before .before .before .before .before .before .before .before .before .before .before .before .before .before .before .before .before .before .args .n))) (c .before .before .before .before .before .before .before .before .before .before .before .before .before .before .before .mark .ensures .1) (c .before .before .before .before .before .before .before .before .before .before .before .before .before .summed-rates .ensures) (sym (c .before .before .before .before .before .before .before .before .before .before .before .before .before .before .before .before .before .before .stopped .ensures) ∙ c .before .before .before .before .before .before .before .before .before .before .before .before .before .before .before .before .before .if1 .left) (c .before .before .before .before .before .before .before .before .on-interval .ensures) (sym (c .before .stopped2 .ensures) ∙ c .if2 .taken))
 
 same-length-4 : tie.Need-same-length-4 Inv-loop μ-loop
 same-length-4 c = ran-same (returns-2 c) .times
@@ -72,16 +72,16 @@ same-length-6 : tie.Need-same-length-6 Inv-loop μ-loop
 same-length-6 c = ran-same (returns-2 c) .values
 
 add-b : tie.Need-add-b Inv-loop μ-loop
-add-b c = omega (arith, c .before .before .before .before .before .before .before .before .before .before .before .before .before .before .before .before .before .before .before .before .before .before .before .before .before .before .before .before .loop-test .taken, c .before .before .before .before .before .before .before .before .before .before .before .before .before .before .before .before .before .before .before .before .before .before .before .before .before .before .before .before .before .before .before .before .before .before .before .before .good .1 .1 .1 .1 .1 .0 .0)
+add-b c = omega (arith, c .before .before .before .before .before .before .before .before .before .before .before .before .before .before .before .before .before .before .before .before .before .before .before .before .before .before .before .before .before .before .loop-test .taken, c .before .before .before .before .before .before .before .before .before .before .before .before .before .before .before .before .before .before .before .before .before .before .before .before .before .before .before .before .before .before .before .before .before .before .before .before .before .before .good .1 .1 .1 .1 .1 .0 .0)
 
 loop-less : tie.Need-loop-less Inv-loop μ-loop
-loop-less c = omega (arith, c .before .before .before .before .before .before .before .before .before .before .before .before .before .before .before .before .before .before .before .before .before .before .before .before .before .before .before .before .loop-test .taken)
+loop-less c = omega (arith, c .before .before .before .before .before .before .before .before .before .before .before .before .before .before .before .before .before .before .before .before .before .before .before .before .before .before .before .before .before .before .loop-test .taken)
 
 loop-again : tie.Need-loop-again Inv-loop μ-loop
 loop-again c = (
-  code-going _ _ _ _ _ _ _ _ _ _ _ (c .before .before .before .before .before .before .before .before .before .before .before .before .before .before .before .before .before .before .before .before .before .before .before .before .before .before .before .before .before .loop .inv .0) (omega (arith, c .before .before .before .before .before .before .before .before .before .before .before .before .before .before .before .before .before .before .before .before .before .before .before .before .before .before .before .before .loop-test .taken, c .before .before .before .before .before .before .before .before .before .before .before .before .before .before .before .before .before .before .before .before .before .before .before .before .before .before .before .before .before .before .before .before .before .before .before .before .pre .1)) (c .before .before .before .before .before .before .before .before .before .before .before .before .before .before .before .before .before .before .before .before .before .before .before .at-boundary .ensures (kernelAdvance (c .before .before .before .before .before .before .before .before .before .before .before .before .before .before .before .before .before .before .before .before .before .before .before .before .before .before .before .before .before .before .before .before .before .before .before .before .args .kernel) (c .before .before .before .before .before .before .before .before .before .before .before .before .before .before .before .before .before .before .before .before .before .before .before .before .before .before .before .before .before .before .before .before .before .before .before .before .args .n))) (c .before .before .before .before .before .before .before .before .before .before .before .before .before .before .mark .ensures .1) (c .before .before .before .before .before .before .before .before .before .before .before .before .summed-rates .ensures) (c .before .before .before .before .before .before .before .before .before .before .before .before .before .before .before .before .if1 .left) (c .before .before .before .before .before .before .before .on-interval .ensures) (c .if2 .left),
-  omega (arith, c .before .before .before .before .before .before .before .before .before .before .before .before .before .before .before .before .before .before .before .before .before .before .before .before .before .before .before .before .loop-test .taken, c .before .before .before .before .before .before .before .before .before .before .before .before .before .before .before .before .before .before .before .before .before .before .before .before .before .before .before .before .before .before .before .before .before .before .before .before .pre .1),
-  c .before .before .before .before .before .before .before .before .before .before .before .before .before .before .mark .ensures .0 ∙ c .before .before .before .before .before .before .before .before .before .before .before .before .before .before .before .before .before .before .before .before .before .before .before .before .before .before .before .before .before .loop .inv .2,
+  code-going _ _ _ _ _ _ _ _ _ _ _ (c .before .before .before .before .before .before .before .before .before .before .before .before .before .before .before .before .before .before .before .before .before .before .before .before .before .before .before .before .before .before .before .loop .inv .0) (omega (arith, c .before .before .before .before .before .before .before .before .before .before .before .before .before .before .before .before .before .before .before .before .before .before .before .before .before .before .before .before .before .before .loop-test .taken, c .before .before .before .before .before .before .before .before .before .before .before .before .before .before .before .before .before .before .before .before .before .before .before .before .before .before .before .before .before .before .before .before .before .before .before .before .before .before .pre .1)) (c .before .before .before .before .before .before .before .before .before .before .before .before .before .before .before .before .before .before .before .before .before .before .before .before .before .at-boundary .ensures (kernelAdvance (c .before .before .before .before .before .before .before .before .before .before .before .before .before .before .before .before .before .before .before .before .before .before .before .before .before .before .before .before .before .before .before .before .before .before .before .before .before .before .args .kernel) (c .before .before .before .before .before .before .before .before .before .before .before .before .before .before .before .before .before .before .before .before .before .before .before .before .before .before .before .before .before .before .before .before .before .before .before .before .before .before .args .n))) (c .before .before .before .before .before .before .before .before .before .before .before .before .before .before .before .mark .ensures .1) (c .before .before .before .before .before .before .before .before .before .before .before .before .before .summed-rates .ensures) (sym (c .before .before .before .before .before .before .before .before .before .before .before .before .before .before .before .before .before .before .stopped .ensures) ∙ c .before .before .before .before .before .before .before .before .before .before .before .before .before .before .before .before .before .if1 .left) (c .before .before .before .before .before .before .before .before .on-interval .ensures) (sym (c .before .stopped2 .ensures) ∙ c .if2 .left),
+  omega (arith, c .before .before .before .before .before .before .before .before .before .before .before .before .before .before .before .before .before .before .before .before .before .before .before .before .before .before .before .before .before .before .loop-test .taken, c .before .before .before .before .before .before .before .before .before .before .before .before .before .before .before .before .before .before .before .before .before .before .before .before .before .before .before .before .before .before .before .before .before .before .before .before .before .before .pre .1),
+  c .before .before .before .before .before .before .before .before .before .before .before .before .before .before .before .mark .ensures .0 ∙ c .before .before .before .before .before .before .before .before .before .before .before .before .before .before .before .before .before .before .before .before .before .before .before .before .before .before .before .before .before .before .before .loop .inv .2,
 )
 
 at-boundary-requires-2 : tie.Need-at-boundary-requires-2 Inv-loop μ-loop
@@ -112,7 +112,7 @@ pub over-boundaries-spec : {M : Type 1} → statement M
 over-boundaries-spec =
     tie.close
     (tie.spec
-    Inv-loop μ-loop (λ c. search needs) loop-holds (λ c. search needs) (λ c. search needs) at-boundary-requires same-length
+    Inv-loop μ-loop (λ c. search needs) loop-holds (λ c. search needs) (λ c. search needs) at-boundary-requires (λ c κs. search needs) same-length
     same-length-2 same-length-3 returns (λ c κs. search needs) (λ c κs. search needs) add-u mul-u shared-slice-read-u
-    on-interval-requires same-length-4 same-length-5 same-length-6 returns-2 add-b loop-less loop-again (λ c. search needs)
+    on-interval-requires (λ c κs. search needs) same-length-4 same-length-5 same-length-6 returns-2 add-b loop-less loop-again (λ c. search needs)
     (λ c. search needs) at-boundary-requires-2 same-length-7 same-length-8 same-length-9 returns-3)

@@ -64,48 +64,70 @@ on-schedule-requires c κs =
 
 clear-requires-2 : tie.Need-clear-requires-2
 clear-requires-2 c κs =
-    let s = c .before .before .before .before .before .before .before .before .before .before .before .before .before .before .before .before .before .before .before .before .before .before .before .before .before .before .before .before .before .before .before .before .before in
+    let s = c .before .before .before .before .before .before .before .before .before .before .before .before .before .before .before .before .before .before .before .before .before .before .before .before .before .before .before .before .before .before .before .before .before .before .before in
     let g = s .args in
     let es = packed (g .reals .now) (g .words .now) (g .count) in
     let q : 4 * g .count + length (g .samples .now) + 2 ≡ reckoned (g .samples .now) es = reckons (g .samples .now) es (packed-length (g .reals .now) (g .words .now) (g .count)) in
-    let e = c .before .before .before .before .before .before .before .before .before .before .before .before .before .before .before .before .before .before .before .before .before .before .before .before .before .before .before .before .state-count .ensures in
-    let z = c .before .before .before .before .before .before .before .before .before .before .before .before .before .before .before .before .before .before .before .before .before .before .before .before .clear .ensures in
-    (e .1, room-again (g .kernel) (g .initial) (g .window) (g .samples .now) es (g .times .now) (g .sides .now) (g .values .now) (s .pre) (e .0) q (z .0) (z .1) (z .2) (c .before .before .before .before .before .before .before .before .before .before .before .before .on-schedule .ensures))
+    let e = c .before .before .before .before .before .before .before .before .before .before .before .before .before .before .before .before .before .before .before .before .before .before .before .before .before .before .before .before .before .before .state-count .ensures in
+    let z = c .before .before .before .before .before .before .before .before .before .before .before .before .before .before .before .before .before .before .before .before .before .before .before .before .before .before .clear .ensures in
+    (e .1, room-again (g .kernel) (g .initial) (g .window) (g .samples .now) es (g .times .now) (g .sides .now) (g .values .now) (s .pre) (e .0) q (z .0) (z .1) (z .2) (c .before .before .before .before .before .before .before .before .before .before .before .before .before .before .on-schedule .ensures))
 
 same-length : tie.Need-same-length
 same-length c =
-    let s = c .before .before .before .before .before .before .before .before .before .before .before .before .before .before .before .before .before .before .before .before .before .before .before .before .before .before .before .before .before .before .before .before .before .before .before .before .before .before .before .before in
+    let s = c .before .before .before .before .before .before .before .before .before .before .before .before .before .before .before .before .before .before .before .before .before .before .before .before .before .before .before .before .before .before .before .before .before .before .before .before .before .before .before .before .before .before in
     let g = s .args in
     let es = packed (g .reals .now) (g .words .now) (g .count) in
     let q : 4 * g .count + length (g .samples .now) + 2 ≡ reckoned (g .samples .now) es = reckons (g .samples .now) es (packed-length (g .reals .now) (g .words .now) (g .count)) in
-    let e = c .before .before .before .before .before .before .before .before .before .before .before .before .before .before .before .before .before .before .before .before .before .before .before .before .before .before .before .before .before .before .before .before .before .before .before .state-count .ensures in
-    let z = c .before .before .before .before .before .before .before .before .before .before .before .before .before .before .before .before .before .before .before .before .before .before .before .before .before .before .before .before .before .before .before .clear .ensures in
+    let e = c .before .before .before .before .before .before .before .before .before .before .before .before .before .before .before .before .before .before .before .before .before .before .before .before .before .before .before .before .before .before .before .before .before .before .before .before .before .state-count .ensures in
+    let z = c .before .before .before .before .before .before .before .before .before .before .before .before .before .before .before .before .before .before .before .before .before .before .before .before .before .before .before .before .before .before .before .before .before .clear .ensures in
     let y = c .before .before .before .before .before .before .clear2 .ensures in
-    same-again (g .kernel) (g .initial) (g .window) (g .samples .now) es (g .times .now) (g .sides .now) (g .values .now) (s .pre) (e .0) q (z .0) (z .1) (z .2) (c .before .before .before .before .before .before .before .before .before .before .before .before .before .before .before .before .before .before .before .on-schedule .ensures) (y .0) (y .1) (y .2) .0
+    same-again (g .kernel) (g .initial) (g .window) (g .samples .now) es (g .times .now) (g .sides .now) (g .values .now) (s .pre) (e .0) q (z .0) (z .1) (z .2) (c .before .before .before .before .before .before .before .before .before .before .before .before .before .before .before .before .before .before .before .before .before .on-schedule .ensures) (y .0) (y .1) (y .2) .0
+
+same-length-2 : tie.Need-same-length-2
+same-length-2 c =
+    let s = c .before .before .before .before .before .before .before .before .before .before .before .before .before .before .before .before .before .before .before .before .before .before .before .before .before .before .before .before .before .before .before .before .before .before .before .before .before .before .before .before .before .before in
+    let g = s .args in
+    let es = packed (g .reals .now) (g .words .now) (g .count) in
+    let q : 4 * g .count + length (g .samples .now) + 2 ≡ reckoned (g .samples .now) es = reckons (g .samples .now) es (packed-length (g .reals .now) (g .words .now) (g .count)) in
+    let e = c .before .before .before .before .before .before .before .before .before .before .before .before .before .before .before .before .before .before .before .before .before .before .before .before .before .before .before .before .before .before .before .before .before .before .before .before .before .state-count .ensures in
+    let z = c .before .before .before .before .before .before .before .before .before .before .before .before .before .before .before .before .before .before .before .before .before .before .before .before .before .before .before .before .before .before .before .before .before .clear .ensures in
+    let y = c .before .before .before .before .before .before .clear2 .ensures in
+    same-again (g .kernel) (g .initial) (g .window) (g .samples .now) es (g .times .now) (g .sides .now) (g .values .now) (s .pre) (e .0) q (z .0) (z .1) (z .2) (c .before .before .before .before .before .before .before .before .before .before .before .before .before .before .before .before .before .before .before .before .before .on-schedule .ensures) (y .0) (y .1) (y .2) .1
+
+same-length-3 : tie.Need-same-length-3
+same-length-3 c =
+    let s = c .before .before .before .before .before .before .before .before .before .before .before .before .before .before .before .before .before .before .before .before .before .before .before .before .before .before .before .before .before .before .before .before .before .before .before .before .before .before .before .before .before .before in
+    let g = s .args in
+    let es = packed (g .reals .now) (g .words .now) (g .count) in
+    let q : 4 * g .count + length (g .samples .now) + 2 ≡ reckoned (g .samples .now) es = reckons (g .samples .now) es (packed-length (g .reals .now) (g .words .now) (g .count)) in
+    let e = c .before .before .before .before .before .before .before .before .before .before .before .before .before .before .before .before .before .before .before .before .before .before .before .before .before .before .before .before .before .before .before .before .before .before .before .before .before .state-count .ensures in
+    let z = c .before .before .before .before .before .before .before .before .before .before .before .before .before .before .before .before .before .before .before .before .before .before .before .before .before .before .before .before .before .before .before .before .before .clear .ensures in
+    let y = c .before .before .before .before .before .before .clear2 .ensures in
+    same-again (g .kernel) (g .initial) (g .window) (g .samples .now) es (g .times .now) (g .sides .now) (g .values .now) (s .pre) (e .0) q (z .0) (z .1) (z .2) (c .before .before .before .before .before .before .before .before .before .before .before .before .before .before .before .before .before .before .before .before .before .on-schedule .ensures) (y .0) (y .1) (y .2) .2
 
 returns : tie.Need-returns
 returns c =
-    let s = c .before .before .before .before .before .before .before .before .before .before .before .before .before .before .before .before .before .before .before .before .before .before .before .before .before .before .before .before .before .before .before .before .before .before .before .before .before .before .before .before in
+    let s = c .before .before .before .before .before .before .before .before .before .before .before .before .before .before .before .before .before .before .before .before .before .before .before .before .before .before .before .before .before .before .before .before .before .before .before .before .before .before .before .before .before .before in
     let g = s .args in
     let es = packed (g .reals .now) (g .words .now) (g .count) in
     let q : 4 * g .count + length (g .samples .now) + 2 ≡ reckoned (g .samples .now) es = reckons (g .samples .now) es (packed-length (g .reals .now) (g .words .now) (g .count)) in
-    let e = c .before .before .before .before .before .before .before .before .before .before .before .before .before .before .before .before .before .before .before .before .before .before .before .before .before .before .before .before .before .before .before .before .before .before .before .state-count .ensures in
-    let z = c .before .before .before .before .before .before .before .before .before .before .before .before .before .before .before .before .before .before .before .before .before .before .before .before .before .before .before .before .before .before .before .clear .ensures in
+    let e = c .before .before .before .before .before .before .before .before .before .before .before .before .before .before .before .before .before .before .before .before .before .before .before .before .before .before .before .before .before .before .before .before .before .before .before .before .before .state-count .ensures in
+    let z = c .before .before .before .before .before .before .before .before .before .before .before .before .before .before .before .before .before .before .before .before .before .before .before .before .before .before .before .before .before .before .before .before .before .clear .ensures in
     let y = c .before .before .before .before .before .before .clear2 .ensures in
-    stopped (g .kernel) (g .initial) (g .window) (g .samples .now) es (g .times .now) (g .sides .now) (g .values .now) (s .pre) (e .0) q (z .0) (z .1) (z .2) (c .before .before .before .before .before .before .before .before .before .before .before .before .before .before .before .before .before .before .before .on-schedule .ensures) (y .0) (y .1) (y .2) (c .before .before .before .before .before .before .before .before .before .before .if1 .taken)
+    stopped (g .kernel) (g .initial) (g .window) (g .samples .now) es (g .times .now) (g .sides .now) (g .values .now) (s .pre) (e .0) q (z .0) (z .1) (z .2) (c .before .before .before .before .before .before .before .before .before .before .before .before .before .before .before .before .before .before .before .before .before .on-schedule .ensures) (y .0) (y .1) (y .2) _ (c .before .before .before .before .before .before .before .before .before .before .before .reply .given .1)
 
 returns-2 : tie.Need-returns-2
 returns-2 c =
-    let s = c .before .before .before .before .before .before .before .before .before .before .before .before .before .before .before .before .before .before .before .before .before .before .before .before .before .before .before .before .before .before in
+    let s = c .before .before .before .before .before .before .before .before .before .before .before .before .before .before .before .before .before .before .before .before .before .before .before .before .before .before .before .before .before .before .before in
     let g = s .args in
     let es = packed (g .reals .now) (g .words .now) (g .count) in
     let q : 4 * g .count + length (g .samples .now) + 2 ≡ reckoned (g .samples .now) es = reckons (g .samples .now) es (packed-length (g .reals .now) (g .words .now) (g .count)) in
-    let e = c .before .before .before .before .before .before .before .before .before .before .before .before .before .before .before .before .before .before .before .before .before .before .before .before .before .state-count .ensures in
-    let z = c .before .before .before .before .before .before .before .before .before .before .before .before .before .before .before .before .before .before .before .before .before .clear .ensures in
-    reached (g .kernel) (g .initial) (g .window) (g .samples .now) es (g .times .now) (g .sides .now) (g .values .now) (s .pre) (e .0) q (z .0) (z .1) (z .2) (c .before .before .before .before .before .before .before .before .before .on-schedule .ensures) (c .if1 .left)
+    let e = c .before .before .before .before .before .before .before .before .before .before .before .before .before .before .before .before .before .before .before .before .before .before .before .before .before .before .state-count .ensures in
+    let z = c .before .before .before .before .before .before .before .before .before .before .before .before .before .before .before .before .before .before .before .before .before .before .clear .ensures in
+    reached (g .kernel) (g .initial) (g .window) (g .samples .now) es (g .times .now) (g .sides .now) (g .values .now) (s .pre) (e .0) q (z .0) (z .1) (z .2) (c .before .before .before .before .before .before .before .before .before .before .on-schedule .ensures) (c .enum-told .given .1)
 
 pub run-prepared-spec : {M : Type 1} → statement M
 run-prepared-spec =
     tie.close
     (tie.spec
-    (λ c κs. search needs) mul-rows add-rows add-rows-2 clear-requires (λ c. search needs) (λ c. search needs) on-schedule-requires clear-requires-2 same-length (λ c. search needs) (λ c. search needs) returns (λ c. search needs) (λ c. search needs) (λ c. search needs) returns-2)
+    (λ c κs. search needs) mul-rows add-rows add-rows-2 clear-requires (λ c. search needs) (λ c. search needs) on-schedule-requires (λ c. search needs) clear-requires-2 (λ c. search needs) same-length same-length-2 same-length-3 returns (λ c. search needs) (λ c. search needs) (λ c. search needs) returns-2)

@@ -11,14 +11,15 @@ returns : tie.Need-returns
 returns c = λ d. let g = c .before .before .before .args in arrive-spent (g .start) d (g .t) (take (g .n) (g .rates)) (g .u) (c .if1 .taken)
 
 returns-2 : tie.Need-returns-2
-returns-2 c = λ d. let g = c .before .before .before .before .before .args in arrive-refused (g .start) d (g .t) (take (g .n) (g .rates)) (g .u) (c .before .propagate .result) (omega (arith, c .before .before .if1 .left)) (c .before .propagate .ensures) (c .if2 .taken)
+returns-2 c = λ d. let g = c .before .before .before .before .before .before .before .args in arrive-refused (g .start) d (g .t) (take (g .n) (g .rates)) (g .u) (c .before .before .before .propagate .result) (omega (arith, c .before .before .before .before .if1 .left)) (c .before .before .before .propagate .ensures) _ (c .before .reply .given .1)
 
 returns-3 : tie.Need-returns-3
 unfolding ofBits
-returns-3 c = λ d. let g = c .before .before .before .before .before .before .args in arrive-done (g .start) d (g .t) (take (g .n) (g .rates)) (g .u) (c .before .before .propagate .result) (omega (arith, c .before .before .before .if1 .left)) (c .before .before .propagate .ensures) (c .before .if2 .left)
+returns-3 c = λ d. let g = c .before .before .before .before .before .before .before .args in arrive-done (g .start) d (g .t) (take (g .n) (g .rates)) (g .u) (c .before .before .before .propagate .result) (omega (arith, c .before .before .before .before .if1 .left)) (c .before .before .before .propagate .ensures) (c .before .enum-told .given .1)
 
 pub arrive-spec : {M : Type 1} → statement M
 arrive-spec =
     tie.close
     (tie.spec
-    (λ c. search needs) returns (λ c κs. search needs) (λ c. search needs) returns-2 (λ c. search needs) returns-3)
+    (λ c. search needs) returns (λ c κs. search needs) (λ c. search needs) (λ c. search needs) (λ c. search needs)
+    (λ c. search needs) returns-2 returns-3)

@@ -4,7 +4,7 @@ use borrow.Author.Needs.{needs}
 use native.Mathlib.Omega.{arith}
 use lib.ListN.{take}
 use lib.Seq.{length-take-le}
-use Rattle.rows.proofs.Kernel.{advance-refused, advance-done}
+use Rattle.rows.proofs.Kernel.{advance-moves}
 use Rattle.rows.proofs.propagate.Statement.{statement}
 use Rattle.rows.proofs.propagate.Tie as tie
 
@@ -19,17 +19,12 @@ slice-aggregate-advance c = sym (length-take-le _ _ (omega arith))
 
 returns : tie.Need-returns
 returns c =
-    let g = c .before .before .before .before .before .before .before .args in
-    advance-done (g .kernel) (g .n) (take (g .n) (g .t3)) (take (g .n) (g .t4)) (g .duration) _ (length-take-le _ _ (omega arith)) (length-take-le (g .n) (g .t3) (omega arith)) (c .before .number .result) _ (c .before .number .ensures) (c .before .before .before .advance .ensures .0) (c .if1 .taken) _ _ _ (length-take-le _ _ (omega arith)) (c .before .before .before .advance .ensures .1)
-
-returns-2 : tie.Need-returns-2
-returns-2 c =
-    let g = c .before .before .before .before .before .before .before .args in
-    advance-refused (g .kernel) (g .n) (take (g .n) (g .t3)) (take (g .n) (g .t4)) (g .duration) _ (length-take-le _ _ (omega arith)) (length-take-le (g .n) (g .t3) (omega arith)) (c .before .number .result) _ (c .before .number .ensures) (c .before .before .before .advance .ensures .0) (c .if1 .left)
+    let g = c .before .before .before .before .before .args in
+    advance-moves (g .kernel) (g .n) (take (g .n) (g .t3)) (take (g .n) (g .t4)) (g .duration) _ (length-take-le _ _ (omega arith)) (length-take-le (g .n) (g .t3) (omega arith)) (c .before .advance .result) (c .before .advance .ensures .0) _ _ _ (length-take-le _ _ (omega arith)) (c .before .advance .ensures .1)
 
 pub propagate-spec : {M : Type 1} → statement M
 propagate-spec =
     tie.close
     (tie.spec
     (λ c. search needs) slice-aggregate-from (λ c. search needs) slice-aggregate-input (λ c. search needs) slice-aggregate-advance
-    (λ c κs. search needs) (λ c κs. search needs) returns returns-2)
+    (λ c κs. search needs) returns)

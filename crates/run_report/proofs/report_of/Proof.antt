@@ -10,7 +10,7 @@ returns c = rw (c .before .before .reply .given .1, c .number .ensures)
 
 returns-2 : tie.Need-returns-2
 unfolding ofBits
-returns-2 c = rw (c .before .reply2 .given .1)
+returns-2 c = rw (c .before .before .reply2 .given .1, c .number2 .ensures)
 
 returns-3 : tie.Need-returns-3
 unfolding ofBits
@@ -20,4 +20,4 @@ pub report-of-spec : {M : Type 1} → statement M
 report-of-spec =
     tie.close
     (tie.spec
-    (λ c. search needs) (λ c κs. search needs) (λ c. search needs) (λ c. search needs) returns returns-2 returns-3)
+    (λ c. search needs) (λ c κs. search needs) (λ c. search needs) (λ c κs. search needs) (λ c. search needs) returns returns-2 returns-3)

@@ -11,7 +11,7 @@ returns : tie.Need-returns
 unfolding ofBits
 returns c =
     let p = c .before .before .before .print-steady .ensures in
-    rw (c .before .before .before .before .before .before .reply .given .1) (prints refl (text-some _) (c .reply-of .ensures .0) (c .reply-of .ensures .1) (p .0) (p .1))
+    rw (c .before .before .before .before .before .before .before .reply .given .1, ← c .before .before .before .before .before .number .ensures) (prints refl (text-some _) (c .reply-of .ensures .0) (c .reply-of .ensures .1) (p .0) (p .1))
 
 returns-2 : tie.Need-returns-2
 unfolding ofBits
@@ -23,4 +23,4 @@ pub print-reply-spec : {M : Type 1} → statement M
 print-reply-spec =
     tie.close
     (tie.spec
-    (λ c. search needs) (λ c κs. search needs) (λ c κs. search needs) (λ c. search needs) (λ c κs. search needs) (λ c κs. search needs) (λ c. search needs) returns (λ c. search needs) returns-2)
+    (λ c. search needs) (λ c κs. search needs) (λ c κs. search needs) (λ c κs. search needs) (λ c. search needs) (λ c κs. search needs) (λ c κs. search needs) (λ c. search needs) returns (λ c. search needs) returns-2)

@@ -30,20 +30,20 @@ last-of-requires c κs = rw (c .before .before .before .before .homogeneous .ens
 
 returns : tie.Need-returns Inv-loop μ-loop
 returns c =
-    let g = c .before .before .before .before .before .before .before .args in
-    let l = c .before .before .before .before .loop-test .taken in
-    columns-stop (propagatorOf (g .kernel)) (g .n) (g .window) (packed (g .reals .now) (g .words .now) (g .count)) (c .before .before .before .before .before .loop .columns) (c .before .before .before .before .before .loop .j) (c .before .before .before .before .before .loop .inv .2) l
-    (rw (c .before .before .before .before .before .before .homogeneous .ensures (g .words .now), c .before .before .before .unit .ensures, unit-front (g .n) (c .before .before .before .before .before .loop .j) (c .before .before .before .before .before .before .before .pre .0 .states) l, c .if1 .taken) at (c .before .last-of .ensures))
+    let g = c .before .before .before .before .before .before .before .before .before .args in
+    let l = c .before .before .before .before .before .before .loop-test .taken in
+    columns-stop (propagatorOf (g .kernel)) (g .n) (g .window) (packed (g .reals .now) (g .words .now) (g .count)) (c .before .before .before .before .before .before .before .loop .columns) (c .before .before .before .before .before .before .before .loop .j) (c .before .before .before .before .before .before .before .loop .inv .2) l
+    (rw (c .before .before .before .before .before .before .before .before .homogeneous .ensures (g .words .now), c .before .before .before .before .before .unit .ensures, unit-front (g .n) (c .before .before .before .before .before .before .before .loop .j) (c .before .before .before .before .before .before .before .before .before .pre .0 .states) l, c .before .reply .given .1) at (c .before .before .before .last-of .ensures))
 
 loop-again : tie.Need-loop-again Inv-loop μ-loop
 loop-again c =
-    let g = c .before .before .before .before .before .before .before .before .args in
-    let l = c .before .before .before .before .before .loop-test .taken in (
+    let g = c .before .before .before .before .before .before .before .before .before .args in
+    let l = c .before .before .before .before .before .before .loop-test .taken in (
       omega arith,
-      simp length-set (c .before .before .before .before .before .before .loop .inv .1),
-      columns-more (propagatorOf (g .kernel)) (g .n) (g .window) (packed (g .reals .now) (g .words .now) (g .count)) (c .before .before .before .before .before .before .loop .columns) (c .before .before .before .before .before .before .loop .j) (c .before .before .before .before .before .before .loop .inv .2) (c .before .before .last-of .result .amounts)
-          (omega (arith, c .before .before .before .before .before .before .before .before .pre .0 .states))
-          (rw (c .before .before .before .before .before .before .before .homogeneous .ensures (g .words .now), c .before .before .before .before .unit .ensures, unit-front (g .n) (c .before .before .before .before .before .before .loop .j) (c .before .before .before .before .before .before .before .before .pre .0 .states) l, c .before .if1 .left) at (c .before .before .last-of .ensures)),
+      simp length-set (c .before .before .before .before .before .before .before .loop .inv .1),
+      columns-more (propagatorOf (g .kernel)) (g .n) (g .window) (packed (g .reals .now) (g .words .now) (g .count)) (c .before .before .before .before .before .before .before .loop .columns) (c .before .before .before .before .before .before .before .loop .j) (c .before .before .before .before .before .before .before .loop .inv .2) (c .before .before .before .last-of .result .amounts)
+          (omega (arith, c .before .before .before .before .before .before .before .before .before .pre .0 .states))
+          (rw (c .before .before .before .before .before .before .before .before .homogeneous .ensures (g .words .now), c .before .before .before .before .before .unit .ensures, unit-front (g .n) (c .before .before .before .before .before .before .before .loop .j) (c .before .before .before .before .before .before .before .before .before .pre .0 .states) l, c .before .enum-told .given .1) at (c .before .before .before .last-of .ensures)),
     )
 
 returns-2 : tie.Need-returns-2 Inv-loop μ-loop
@@ -53,5 +53,5 @@ pub columns-spec : {M : Type 1} → statement M
 columns-spec =
     tie.close
     (tie.spec
-    Inv-loop μ-loop (λ c κs. search needs) loop-holds unit-requires last-of-requires returns (λ c. search needs) (λ c. search needs)
-    (λ c. search needs) (λ c. search needs) loop-again returns-2)
+    Inv-loop μ-loop (λ c κs. search needs) loop-holds unit-requires last-of-requires (λ c. search needs) returns
+    (λ c. search needs) (λ c. search needs) (λ c. search needs) (λ c. search needs) (λ c. search needs) loop-again returns-2)
