@@ -203,8 +203,9 @@ uint64_t linear_pk_periodic_steady_state(const double *kernel, size_t kernel_len
  * reached its end, else the number of its `refused` line: 40, 5, 1, 2, 3, 13,
  * 10, 11, 12, 14 ahead of the run, or 3, 20, 21, 22, 30, 31, 32 in it. 5 stands
  * for more than 64 events or 256 samples. A propagation word of 0 is 1,000.
- * Replies 4 where out is too short for the printout: nothing is written then,
- * and *length is 0. RIG_PRINTOUT_BYTES are enough for every sheet. */
+ * Where out is too short for the printout nothing is written and *length is 0; a
+ * run that reached its end is then 4, a refusal keeps its number.
+ * RIG_PRINTOUT_BYTES are enough for every sheet. */
 uint64_t rig_run_sheet(const uint8_t *sheet, size_t sheet_len,
                        uint8_t *out, size_t out_len, size_t *length);
 

@@ -123,10 +123,11 @@ fn compare(entry: &Entry, sheet: &[u8]) -> u64 {
         eprintln!("text: {}", String::from_utf8_lossy(&exact.2));
         abort();
     }
-    let short = call(entry.call, sheet, text.len() - 1);
-    if short != (4, 0, vec![CELL; text.len() - 1]) {
+    let room = text.len() - 1;
+    let short = call(entry.call, sheet, room);
+    if short != (expected.reply(room), 0, vec![CELL; room]) {
         eprintln!(
-            "{}: expected 4 of {expected:?}, received {short:?}",
+            "{}: expected no room for {expected:?}, received {short:?}",
             entry.name
         );
         abort();

@@ -52,11 +52,12 @@ fn call(
             length.lend_mut().cast(),
         )
     };
-    // Without room for the text: 4, and nothing is written.
-    let (number, text) = if room < expected.text.len() {
-        (4, &[][..])
+    let number = expected.reply(room);
+    // Without room for the text nothing is written.
+    let text = if room < expected.text.len() {
+        &[][..]
     } else {
-        (expected.number, expected.text.as_bytes())
+        expected.text.as_bytes()
     };
     if reply != number {
         return Some(format!("number: expected {number}, received {reply}"));

@@ -893,7 +893,7 @@ fn hand_out(printout: &Printout, lent: Lent) -> u64 {
     let text = printout.text.as_bytes();
     if lent.out.len() < text.len() {
         *lent.length = 0;
-        return 4;
+        return printout.reply(lent.out.len());
     }
     lent.out[..text.len()].copy_from_slice(text);
     *lent.length = text.len();
@@ -1002,10 +1002,9 @@ faulty!(room_for_the_longest, |printout, lent| {
     hand_out(&printout, lent)
 });
 faulty!(refusal_without_room, |printout, lent| {
-    // A refusal is not tested for room.
     if printout.number != 0 && lent.out.len() < printout.text.len() {
         *lent.length = 0;
-        return printout.number;
+        return 4;
     }
     hand_out(&printout, lent)
 });
@@ -1049,7 +1048,7 @@ pub const FAULTY: [(&str, RunSheet); 14] = [
         "room for the longest printout is asked for",
         room_for_the_longest,
     ),
-    ("a refusal is not tested for room", refusal_without_room),
+    ("a refusal without room is 4", refusal_without_room),
     ("the sheet is changed", sheet_changed),
     ("the text starts at the second cell", from_the_second_cell),
     ("a byte past the end is written", a_byte_past_the_end),

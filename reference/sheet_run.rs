@@ -27,6 +27,18 @@ pub struct Printout {
     pub text: String,
 }
 
+impl Printout {
+    /// The number of a call whose output has so many bytes: an answer without
+    /// room is 4, a refusal keeps its number.
+    pub fn reply(&self, room: usize) -> u64 {
+        if self.number == 0 && room < self.text.len() {
+            4
+        } else {
+            self.number
+        }
+    }
+}
+
 /// The kernel of a sheet: 1, 2.
 pub fn kernel(sheet: &Sheet) -> Result<LinearPk, Refusal> {
     LinearPk::new(

@@ -48,7 +48,8 @@ pub extern "C" fn linear_pk_normalize_periodic_cycle(
         folded,
     );
     *count = told.count;
-    told.number
+    let reply = told.reply;
+    refusal::number(reply)
 }
 
 #[no_mangle]

@@ -74,9 +74,7 @@ fn print_sheet(
     let made = sheet_kernel::kernel_of(model);
     let reply = made.reply;
     match reply {
-        Reply::Refused(refusal) => {
-            printout_reply::print_refusal(refusal::number(Reply::Refused(refusal)), out)
-        }
+        Reply::Refused(refusal) => { printout_reply::print_refusal(refusal, out) }
         Reply::Done => {
             let kernel = made.kernel;
             print_kernel(kernel, window, samples, events, out)
@@ -84,23 +82,25 @@ fn print_sheet(
     }
 }
 
-// The printout of a sheet's next cycle, from the front of out; where it has no room there, 4, and nothing is written.
+// The printout of a sheet's next cycle, from the front of out. Where it has no room there nothing is written, and an answer is 4.
 pub fn cycle_sheet(bytes: &[u8], out: &mut [u8]) -> PrintReply
     ensures { λ r. ⌜ r .number ≡ numberInto (now (out .entry)) (cyclePrintoutOfBytes (now (bytes .entry))) ⌝ }
     ensures { λ r. ⌜ r .length ≡ printedLength (cyclePrintoutOfBytes (now (bytes .entry)) .text) (now (out .entry)) ⌝ }
     ensures { λ r. ⌜ now (out .exit) ≡ printed (cyclePrintoutOfBytes (now (bytes .entry)) .text) (now (out .entry)) ⌝ }
 {
     let read = sheet::read_sheet(bytes);
-    let number = read.number;
-    if number != 0 {
-        return printout_reply::print_refusal(number, out);
+    let reply = read.reply;
+    match reply {
+        Reply::Refused(unread) => printout_reply::print_refusal(unread, out),
+        Reply::Done => {
+            let places = read.places;
+            print_sheet(
+                sheet::body(bytes, places.model, places.window),
+                sheet::body(bytes, places.window, places.amounts),
+                sheet::body(bytes, places.samples, places.events),
+                sheet::body(bytes, places.events, places.end),
+                out,
+            )
+        }
     }
-    let places = read.places;
-    print_sheet(
-        sheet::body(bytes, places.model, places.window),
-        sheet::body(bytes, places.window, places.amounts),
-        sheet::body(bytes, places.samples, places.events),
-        sheet::body(bytes, places.events, places.end),
-        out,
-    )
 }

@@ -3,11 +3,13 @@ use cycle_list::Listed;
 use events::EVENTS;
 use linear_pk::LinearPk;
 use protocol::Window;
+use refusal::Refusal;
 use refusal::Reply;
 ghost use mathlib.Core.Path.{_≡_};
 ghost use mathlib.Core.List.{[], map};
 ghost use Prim.Native.Nat.{_≤_, _*_};
 ghost use lib.ListN.{length, take};
+ghost use Rattle.refusal.specs.Numbers.{replyNumber};
 ghost use Rattle.refusal.specs.Result.{number, valueOr};
 ghost use Rattle.printout.specs.Cells.{Wrote};
 ghost use Rattle.event_words.specs.Words.{listWords};
@@ -17,9 +19,9 @@ ghost use Rattle.cycle_words.specs.Words.{foldWords, cellsOf};
 // Words of an event.
 const WORDS: usize = 6;
 
-// 01's number, 0 where the list is folded, and how many events it has.
+// Whether the list is folded, and how many events it has.
 pub struct FoldedWords {
-    pub number: u64,
+    pub reply: Reply,
     pub count: usize,
 }
 
@@ -45,13 +47,13 @@ pub fn fold_words(
     samples: &[f64],
     folded: &mut [u64],
 ) -> FoldedWords
-    ensures { λ r. ⌜ r .number ≡ number (foldWords kernel window (now (events .entry)) (now (samples .entry)) (length (now (folded .entry)))) ⌝ }
+    ensures { λ r. ⌜ replyNumber (r .reply) ≡ number (foldWords kernel window (now (events .entry)) (now (samples .entry)) (length (now (folded .entry)))) ⌝ }
     ensures { λ r. ⌜ r .count ≡ length (valueOr (foldWords kernel window (now (events .entry)) (now (samples .entry)) (length (now (folded .entry)))) []) ⌝ }
     ensures { λ r. ⌜ now (folded .exit) ≡ cellsOf (foldWords kernel window (now (events .entry)) (now (samples .entry)) (length (now (folded .entry)))) (now (folded .entry)) ⌝ }
 {
     if !layout::events_fit(events) {
         return FoldedWords {
-            number: 40,
+            reply: Reply::Refused(Refusal::Layout),
             count: 0,
         };
     }
@@ -66,20 +68,23 @@ pub fn fold_words(
     let reply = cycle.reply;
     match reply {
         Reply::Refused(refusal) => FoldedWords {
-            number: refusal::number(Reply::Refused(refusal)),
+            reply: Reply::Refused(refusal),
             count: 0,
         },
         Reply::Done => {
             let count = cycle.count;
             if WORDS * count > folded.len() {
                 return FoldedWords {
-                    number: 4,
+                    reply: Reply::Refused(Refusal::ShortSlice),
                     count: 0,
                 };
             }
             let places = cycle.events;
             put_list(places, count, folded);
-            FoldedWords { number: 0, count }
+            FoldedWords {
+                reply: Reply::Done,
+                count,
+            }
         }
     }
 }

@@ -1,6 +1,5 @@
 -- The printout of a refusal, and what a reply tells of a closed cycle.
 use mathlib.Core.Path.{_≡_, refl, sym, ap, _∙_}
-use mathlib.Core.Bool.{cond}
 use mathlib.Core.List.{List, _++_, append-nil}
 use Prim.Native.Nat.{ℕ, _≤_}
 use native.Mathlib.Omega.{arith}
@@ -12,6 +11,7 @@ use lib.Ieee.{Float}
 use Rattle.printout.specs.Cells.{printed, printedLength}
 use Rattle.linear_pk.specs.declared.kernel.LinearPk.{LinearPk}
 use Rattle.cycle.specs.Closed.{Timed, stopped, got, Solved, SteadyReply, steadyReplyOf, answerAtExit}
+use Rattle.printout_reply.specs.Printouts.{numberOf}
 use Rattle.printout_reply.specs.Replies.{Prints}
 use Rattle.printout_reply.specs.declared.PrintReply.{PrintReply}
 use Rattle.printout_reply.proofs.Replies.{prints}
@@ -27,11 +27,11 @@ use Rattle.next_printout.proofs.Printing.{text-some}
 
 -- ---- a refusal
 pub refused-prints : {o : Timed NextCycle} {c : ℕ} {t : Float} → o ≡ stopped c t → (c ≡ 0 → ⊥) → (m : Float) (starts residuals : List Float) → {old new : List ℕ} {reply : PrintReply} {length' : ℕ}
-    → reply .number ≡ cond (eqb length' 0) 4 c → reply .length ≡ length' → length' ≡ printedLength (steadyText (replyOf c t 0 m starts residuals)) old
+    → reply .number ≡ numberOf c (eqb length' 0) → reply .length ≡ length' → length' ≡ printedLength (steadyText (replyOf c t 0 m starts residuals)) old
     → new ≡ printed (steadyText (replyOf c t 0 m starts residuals)) old → Prints (cyclePrintout o) old reply new
 unfolding cycleText steadyText
 refused-prints {o} {c} {t} e h m starts residuals {old} {new} {reply} {length'} a b written cells =
-    prints text (text-some o) (a ∙ ap (λ (x : Timed NextCycle). cond (eqb length' 0) 4 (timedNumber x)) (sym e)) b written cells
+    prints text (text-some o) (a ∙ ap (λ (x : Timed NextCycle). numberOf (timedNumber x) (eqb length' 0)) (sym e)) b written cells
   where
     text : steadyText (replyOf c t 0 m starts residuals) ≡ cycleText o
     text = rw (e, ne-eqb c 0 h)

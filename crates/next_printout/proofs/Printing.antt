@@ -12,6 +12,7 @@ use Rattle.printout.specs.Cells.{printed, printedLength}
 use Rattle.printout.proofs.Lengths.{part-size}
 use Rattle.cycle.specs.declared.SteadyStateTolerance.{SteadyStateTolerance}
 use Rattle.cycle.specs.Closed.{Timed, stopped, got}
+use Rattle.printout_reply.specs.Printouts.{numberOf}
 use Rattle.printout_reply.specs.Replies.{Prints}
 use Rattle.printout_reply.specs.declared.PrintReply.{PrintReply}
 use Rattle.printout_reply.proofs.Replies.{refusal-some, prints}
@@ -44,12 +45,12 @@ module _ (tol : SteadyStateTolerance) (n : ℕ) (starts residuals values : List 
   same-cycle = rw (part-size from n, take-all n starts (omega arith), take-all n residuals (omega arith), take-all n (take n (drop from values)) (omega (arith, length-take n (drop from values))))
 
   pub next-prints : {o : Timed NextCycle} → o ≡ got ending → {tol' : SteadyStateTolerance} {m : ℕ} → tol' ≡ tol → m ≡ n → {old new : List ℕ} {reply : PrintReply} {length' : ℕ}
-      → reply .number ≡ cond (eqb length' 0) 4 0 → reply .length ≡ length'
+      → reply .number ≡ numberOf 0 (eqb length' 0) → reply .length ≡ length'
       → length' ≡ printedLength (linesText (cycleOf tol' m starts (take (from + m - from) (drop from values)) residuals)) old
       → new ≡ printed (linesText (cycleOf tol' m starts (take (from + m - from) (drop from values)) residuals)) old → Prints (cyclePrintout o) old reply new
   unfolding cycleText
   next-prints {o} e {tol'} {m} t d {old} {new} {reply} {length'} a b written cells =
-      prints text (text-some o) (a ∙ ap (λ (x : Timed NextCycle). cond (eqb length' 0) 4 (timedNumber x)) (sym e)) b written cells
+      prints text (text-some o) (a ∙ ap (λ (x : Timed NextCycle). numberOf (timedNumber x) (eqb length' 0)) (sym e)) b written cells
     where
       text : linesText (cycleOf tol' m starts (take (from + m - from) (drop from values)) residuals) ≡ cycleText o
       text = rw (t, d, e) (ap linesText same-cycle)

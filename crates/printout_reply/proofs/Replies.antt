@@ -1,6 +1,6 @@
 -- The reply of a printout, from how many bytes were written.
 use mathlib.Core.Path.{_≡_, refl, ap, _∙_, subst}
-use mathlib.Core.Bool.{Bool, true, false, cond}
+use mathlib.Core.Bool.{Bool, true, false, cond, not}
 use mathlib.Core.List.{List}
 use Prim.Native.Nat.{ℕ, _≤_, zero-le}
 use native.Mathlib.Omega.{arith}
@@ -10,7 +10,7 @@ use lib.ListN.{length}
 use lib.Ieee.{Float}
 use Rattle.printout.specs.Printout.{rowsText, refusedText, runText}
 use Rattle.printout.specs.Cells.{printed, printedLength}
-use Rattle.printout_reply.specs.Printouts.{Printout}
+use Rattle.printout_reply.specs.Printouts.{Printout, numberOf}
 use Rattle.printout_reply.specs.Replies.{Prints}
 use Rattle.printout_reply.specs.declared.PrintReply.{PrintReply}
 
@@ -25,16 +25,16 @@ unfolding refusedText
 refusal-some c t = omega arith
 
 module _ {p : Printout} {old new text : List ℕ} {r : PrintReply} {length' : ℕ} where
-  -- none written is 4
-  pub prints : text ≡ p .text → 1 ≤ length (p .text) → r .number ≡ cond (eqb length' 0) 4 (p .number) → r .length ≡ length' → length' ≡ printedLength text old → new ≡ printed text old → Prints p old r new
+  -- none written is no room
+  pub prints : text ≡ p .text → 1 ≤ length (p .text) → r .number ≡ numberOf (p .number) (eqb length' 0) → r .length ≡ length' → length' ≡ printedLength text old → new ≡ printed text old → Prints p old r new
   prints e some number same written cells = record {
-    number = number ∙ ap (λ (l : ℕ). cond (eqb l 0) 4 (p .number)) (written ∙ ap (λ (x : List ℕ). printedLength x old) e) ∙ on (length (p .text)) (leb (length (p .text)) (length old)) some;
+    number = number ∙ ap (λ (l : ℕ). numberOf (p .number) (eqb l 0)) (written ∙ ap (λ (x : List ℕ). printedLength x old) e) ∙ ap (numberOf (p .number)) (on (length (p .text)) (leb (length (p .text)) (length old)) some);
     length = same ∙ written ∙ ap (λ (x : List ℕ). printedLength x old) e;
     cells = cells ∙ ap (λ (x : List ℕ). printed x old) e;
   }
     where
-      on : (l : ℕ) (b : Bool) → 1 ≤ l → cond (eqb (cond b l 0) 0) 4 (p .number) ≡ cond b (p .number) 4
-      on l true h = ap (λ (b : Bool). cond b 4 (p .number)) (ne-eqb l 0 (λ e. omega arith))
+      on : (l : ℕ) (b : Bool) → 1 ≤ l → eqb (cond b l 0) 0 ≡ not b
+      on l true h = ne-eqb l 0 (λ e. omega arith)
       on l false h = refl
 
 pub prints-same : {p q : Printout} {old new : List ℕ} {r : PrintReply} → p ≡ q → Prints p old r new → Prints q old r new

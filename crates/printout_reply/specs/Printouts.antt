@@ -1,8 +1,8 @@
 -- 01, "The sheet and its printout": what a printout is. Definitions only.
-use mathlib.Core.Bool.{cond}
+use mathlib.Core.Bool.{Bool, cond, not, _&&_}
 use mathlib.Core.List.{List}
 use Prim.Native.Nat.{ℕ}
-use lib.Dec.{leb}
+use lib.Dec.{eqb, leb}
 use lib.ListN.{length}
 
 -- the number and the bytes of a printout
@@ -10,6 +10,9 @@ pub record Printout : Type 0 where
   pub number : ℕ
   pub text : List ℕ
 
--- ---- the reply of the entry: 4 where the output is too short for the text, else the printout's own number
+-- ---- the reply of the entry: 4 for an answer that has no room, else the printout's own number, 0 or the refusal's
+abbrev pub numberOf : ℕ → Bool → ℕ
+numberOf c short = cond (eqb c 0 && short) 4 c
+
 abbrev pub numberInto : List ℕ → Printout → ℕ
-numberInto old p = cond (leb (length (p .text)) (length old)) (p .number) 4
+numberInto old p = numberOf (p .number) (not (leb (length (p .text)) (length old)))

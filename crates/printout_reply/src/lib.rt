@@ -1,31 +1,33 @@
 // The reply of a printout, and the printout of a refusal ahead of the run.
+use refusal::Refusal;
+use refusal::Reply;
 ghost use mathlib.Core.Path.{_≡_};
-ghost use mathlib.Core.Bool.{cond};
-ghost use Prim.Native.Nat.{_<_};
 ghost use lib.Dec.{eqb};
+ghost use Rattle.refusal.specs.Numbers.{refusalNumber};
+ghost use Rattle.printout_reply.specs.Printouts.{numberOf};
 ghost use Rattle.printout_reply.specs.Replies.{Prints, refusal as refusalOf};
 
-// 4 where the output is too short, and the length 0; else the printout's number, and how many bytes it has.
+// The printout's number, and how many bytes it has, 0 where the output is too short; an answer without room is 4.
 pub struct PrintReply {
     pub number: u64,
     pub length: usize,
 }
 
-// A text has bytes: none of them stands for no room.
+// A text has bytes: none of them stands for no room. A refusal keeps its number without it.
 pub fn reply_of(number: u64, length: usize) -> PrintReply
-    ensures { λ r. ⌜ (r .number ≡ cond (eqb length 0) 4 number) × (r .length ≡ length) ⌝ }
+    ensures { λ r. ⌜ (r .number ≡ numberOf number (eqb length 0)) × (r .length ≡ length) ⌝ }
 {
-    if length == 0 {
+    if (number == 0) & (length == 0) {
         return PrintReply { number: 4, length };
     }
     PrintReply { number, length }
 }
 
 // A refusal ahead of the run.
-pub fn print_refusal(number: u64, out: &mut [u8]) -> PrintReply
-    requires { ⌜ 0 < number ⌝ }
-    ensures { λ r. ⌜ Prints (refusalOf number) (now (out .entry)) r (now (out .exit)) ⌝ }
+pub fn print_refusal(refusal: Refusal, out: &mut [u8]) -> PrintReply
+    ensures { λ r. ⌜ Prints (refusalOf (refusalNumber refusal)) (now (out .entry)) r (now (out .exit)) ⌝ }
 {
+    let number = refusal::number(Reply::Refused(refusal));
     let reals = [0.0f64; 1];
     let sides = [0u8; 1];
     let length = printout::print_run(

@@ -40,7 +40,8 @@ pub fn agrees(told: FoldedWords, pieces: &[u64; CELLS], words: &[u64; ROOM], sha
 {
     let at = reply_at(shape.events, shape.samples);
     let count = 6 * shape.pieces;
-    (told.number == words[at])
+    let reply = told.reply;
+    (refusal::number(reply) == words[at])
         & (told.count == shape.pieces)
         & words_agree(pieces, count, words, at + 2)
         & kept(pieces, count)

@@ -59,9 +59,10 @@ fn compared(words: &[u64; ROOM], count: usize) -> Outcome {
     }
     let mut pieces = [CELL; CELLS];
     let told = folded(words, shape, &mut pieces);
+    let reply = told.reply;
     Outcome::Called {
         entry: 0,
-        reply: told.number,
+        reply: refusal::number(reply),
         same: compare::agrees(told, &pieces, words, shape),
     }
 }

@@ -1,5 +1,7 @@
 // One line: a sheet's run or steady state, and the printout that it must give.
 use printout_reply::PrintReply;
+use refusal::Refusal;
+use refusal::Reply;
 use stored_answers::Outcome;
 use stored_sheets::CELL;
 use stored_sheets::SHEET;
@@ -24,7 +26,15 @@ fn printed(entry: u64, sheet: &[u8], bytes: usize, out: &mut [u8], cells: usize)
     rig::run_sheet(&sheet[..bytes], &mut out[..cells])
 }
 
-// Calls the entry with one cell too few, which must be 4 and leave all cells, then with as many as the text has.
+// The number of a printout without room: 4 for an answer.
+fn without_room(number: u64) -> u64 {
+    if number == 0 {
+        return refusal::number(Reply::Refused(Refusal::ShortSlice));
+    }
+    number
+}
+
+// Calls the entry with one cell too few, which must leave all cells, then with as many as the text has.
 fn compared(entry: u64, sheet: &[u8; SHEET], bytes: usize, number: u64, text: &[u8]) -> Outcome
     requires { ⌜ bytes ≤ 65544 ⌝ }
 {
@@ -37,7 +47,7 @@ fn compared(entry: u64, sheet: &[u8; SHEET], bytes: usize, number: u64, text: &[
     }
     let mut less = [CELL; TEXT];
     let short = printed(entry, sheet, bytes, &mut less, n - 1);
-    let refused = (short.number == 4) & (short.length == 0) & kept(&less, 0);
+    let refused = (short.number == without_room(number)) & (short.length == 0) & kept(&less, 0);
     let mut out = [CELL; TEXT];
     let reply = printed(entry, sheet, bytes, &mut out, n);
     let same = (reply.length == n) & has_text(&out, text) & kept(&out, n);

@@ -30,7 +30,7 @@ fn print_sheet(
     let made = sheet_kernel::kernel_of(model);
     let reply = made.reply;
     match reply {
-        Reply::Refused(refusal) => print_refusal(refusal::number(Reply::Refused(refusal)), out),
+        Reply::Refused(refusal) => print_refusal(refusal, out),
         Reply::Done => {
             let kernel = made.kernel;
             print_kernel(kernel, window, amounts, samples, events, out)
@@ -38,24 +38,26 @@ fn print_sheet(
     }
 }
 
-// The printout of a sheet, from the front of out; where it has no room there, 4, and nothing is written.
+// The printout of a sheet, from the front of out. Where it has no room there nothing is written, and an answer is 4.
 pub fn run_sheet(bytes: &[u8], out: &mut [u8]) -> PrintReply
     ensures { λ r. ⌜ r .number ≡ numberInto (now (out .entry)) (printoutOfBytes (now (bytes .entry))) ⌝ }
     ensures { λ r. ⌜ r .length ≡ printedLength (printoutOfBytes (now (bytes .entry)) .text) (now (out .entry)) ⌝ }
     ensures { λ r. ⌜ now (out .exit) ≡ printed (printoutOfBytes (now (bytes .entry)) .text) (now (out .entry)) ⌝ }
 {
     let read = sheet::read_sheet(bytes);
-    let number = read.number;
-    if number != 0 {
-        return print_refusal(number, out);
+    let reply = read.reply;
+    match reply {
+        Reply::Refused(unread) => print_refusal(unread, out),
+        Reply::Done => {
+            let places = read.places;
+            print_sheet(
+                sheet::body(bytes, places.model, places.window),
+                sheet::body(bytes, places.window, places.amounts),
+                sheet::body(bytes, places.amounts, places.samples),
+                sheet::body(bytes, places.samples, places.events),
+                sheet::body(bytes, places.events, places.end),
+                out,
+            )
+        }
     }
-    let places = read.places;
-    print_sheet(
-        sheet::body(bytes, places.model, places.window),
-        sheet::body(bytes, places.window, places.amounts),
-        sheet::body(bytes, places.amounts, places.samples),
-        sheet::body(bytes, places.samples, places.events),
-        sheet::body(bytes, places.events, places.end),
-        out,
-    )
 }

@@ -1,8 +1,11 @@
 // The reader of a sheet: bytes of any length and contents to the places of its bodies, or 40, then 5. The words stay in the file, and each body is read as its own part of it.
+use refusal::Refusal;
+use refusal::Reply;
 use sheet_head::Places;
 ghost use mathlib.Core.Path.{_≡_};
 ghost use Prim.Native.Nat.{_-_, _*_, _≤_};
 ghost use lib.ListN.{length, take, drop};
+ghost use Rattle.refusal.specs.Numbers.{refusalNumber, replyNumber};
 ghost use Rattle.refusal.specs.Result.{number};
 ghost use Rattle.sheet.specs.Sheet.{wordsOf, sheetOf, bodiesFit, readSheet};
 ghost use Rattle.sheet.specs.Reader.{noPlaces, placesRead, Located};
@@ -17,14 +20,14 @@ const EVENTS: usize = 64;
 
 const SAMPLES: usize = 256;
 
-// 0, 40 or 5.
+// Done, 40 or 5.
 pub struct Read {
-    pub number: u64,
+    pub reply: Reply,
     pub places: Places,
 }
 
-fn refused(number: u64) -> Read
-    ensures { λ r. ⌜ (r .number ≡ number) × (r .places ≡ noPlaces) ⌝ }
+fn refused(refusal: Refusal) -> Read
+    ensures { λ r. ⌜ (replyNumber (r .reply) ≡ refusalNumber refusal) × (r .places ≡ noPlaces) ⌝ }
 {
     let places = Places {
         model: 0,
@@ -34,7 +37,10 @@ fn refused(number: u64) -> Read
         events: 0,
         end: 0,
     };
-    Read { number, places }
+    Read {
+        reply: Reply::Refused(refusal),
+        places,
+    }
 }
 
 // A body as its own part of the file: from its first byte to its end.
@@ -57,20 +63,26 @@ fn bodies_fit(bytes: &[u8], places: Places) -> bool
 
 // A sheet's places, or 40, then 5.
 pub fn read_sheet(bytes: &[u8]) -> Read
-    ensures { λ r. ⌜ (r .number ≡ number (readSheet (now (bytes .entry)))) × (r .places ≡ placesRead (wordsOf (now (bytes .entry))) (readSheet (now (bytes .entry)))) ⌝ }
+    ensures { λ r. ⌜ (replyNumber (r .reply) ≡ number (readSheet (now (bytes .entry)))) × (r .places ≡ placesRead (wordsOf (now (bytes .entry))) (readSheet (now (bytes .entry)))) ⌝ }
 {
     if !sheet_head::head_fits(bytes) {
-        return refused(40);
+        return refused(Refusal::Layout);
     }
     let places = sheet_head::places_of(bytes);
-    if !bodies_fit(bytes, places) {
-        return refused(40);
-    }
+    let fits = bodies_fit(bytes, places);
     let events = places.end - places.events;
     let samples = places.events - places.samples;
-    if (events / EVENT <= EVENTS) & (samples <= SAMPLES) {
-        Read { number: 0, places }
+    let within = (events / EVENT <= EVENTS) & (samples <= SAMPLES);
+    if fits {
+        if within {
+            Read {
+                reply: Reply::Done,
+                places,
+            }
+        } else {
+            refused(Refusal::Limit)
+        }
     } else {
-        refused(5)
+        refused(Refusal::Layout)
     }
 }

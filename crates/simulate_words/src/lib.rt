@@ -1,7 +1,9 @@
 // A run of events that are laid out as words, six to an event.
 use linear_pk::LinearPk;
 use protocol::Window;
+use refusal::Refusal;
 use run_report::Report;
+use run_report::RunReply;
 ghost use mathlib.Core.Path.{_≡_};
 ghost use lib.ListN.{length};
 ghost use Rattle.linear_pk.specs.LinearPk.{stateCount};
@@ -35,12 +37,7 @@ pub fn simulate_words(
         (room (length (now (times .entry))) (length (now (sides .entry))) (length (now (values .entry))))) (now (values .entry)) ⌝ }
 {
     if !layout::events_fit(events) {
-        return Report {
-            number: 40,
-            time: 0.0,
-            rows: 0,
-            advances: 0,
-        };
+        return run_report::report_of(RunReply::Refused(Refusal::Layout));
     }
     let list = layout::events_of(events);
     let count = events.len() / WORDS;

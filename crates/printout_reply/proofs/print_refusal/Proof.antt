@@ -1,19 +1,23 @@
 -- `printout_reply::print_refusal` meets its contract.
+use mathlib.Core.Path.{ap}
+use native.Mathlib.Omega.{arith}
 use borrow.Author.Needs.{needs}
 use lib.Ieee.{ofBits}
-use Rattle.printout_reply.proofs.Replies.{refusal-text, refusal-some, prints}
+use Rattle.refusal.proofs.Numbers.{refusal-number}
+use Rattle.printout_reply.specs.Replies.{refusal}
+use Rattle.printout_reply.proofs.Replies.{refusal-text, refusal-some, prints, prints-same}
 use Rattle.printout_reply.proofs.print_refusal.Statement.{statement}
 use Rattle.printout_reply.proofs.print_refusal.Tie as tie
 
 returns : tie.Need-returns
 unfolding ofBits
 returns c =
-    let s = c .before .before .before .before .before .before .before .before .before in
+    let e = c .before .before .before .before .before .before .before .before .number .ensures in
     let p = c .before .before .before .print-run .ensures in
-    prints (refusal-text _ _ _ _ _ _ _ _ (s .pre)) (refusal-some _ _) (c .reply-of .ensures .0) (c .reply-of .ensures .1) (p .0) (p .1)
+    prints-same (ap refusal e) (prints (refusal-text _ _ _ _ _ _ _ _ (omega (arith, refusal-number (c .before .before .before .before .before .before .before .before .before .before .args .refusal), e))) (refusal-some _ _) (c .reply-of .ensures .0) (c .reply-of .ensures .1) (p .0) (p .1))
 
 pub print-refusal-spec : {M : Type 1} → statement M
 print-refusal-spec =
     tie.close
     (tie.spec
-    (λ c. search needs) (λ c. search needs) (λ c. search needs) (λ c κs. search needs) (λ c κs. search needs) (λ c. search needs) returns)
+    (λ c κs. search needs) (λ c. search needs) (λ c. search needs) (λ c. search needs) (λ c κs. search needs) (λ c κs. search needs) (λ c. search needs) returns)

@@ -4,12 +4,12 @@ use borrow.Author.Needs.{needs}
 use native.Mathlib.Omega.{arith}
 use native.Mathlib.Nat.{mul-le-mul-right}
 use Prim.Native.Nat.{ℕ, _*_, _≤_}
-use mathlib.Core.Bool.{cond}
 use lib.Dec.{eqb}
 use Rattle.linear_pk.specs.LinearPk.{stateCount}
 use Rattle.protocol.specs.Entry.{Reply}
 use Rattle.sheet.specs.Sheet.{wordsOf}
 use Rattle.sheet.proofs.Places.{words-length}
+use Rattle.printout_reply.specs.Printouts.{numberOf}
 use Rattle.printout_reply.proofs.Replies.{prints}
 use Rattle.sheet_run.specs.SheetRun.{reckonedOf}
 use Rattle.sheet_run.proofs.Words.{reckoned-words}
@@ -40,7 +40,7 @@ returns c =
     let b = c .before .before .before .before .before .before .before .before .before .before .before .before .before .before .before .before .before .before .before .before .simulate-bodies .ensures in
     let p = c .before .before .before .print-run .ensures in
     prints (run-text (g .kernel) (wordsOf (g .window .now)) (wordsOf (g .amounts .now)) (wordsOf (g .samples .now)) (wordsOf (g .events .now)) (b .0) (g .times .now) (g .sides .now) (g .values .now) (c .before .before .before .before .before .before .before .before .before .state-count .ensures .0) (c .before .before .before .before .before .before .before .before .ordered .ensures) (b .1 .0) (b .1 .1 .0) (b .1 .1 .1))
-    (text-some _ _) (c .reply-of .ensures .0 ∙ ap (λ (x : Reply). cond (eqb (c .before .before .before .print-run .result) 0) 4 (x .number)) (b .0)) (c .reply-of .ensures .1) (p .0) (p .1)
+    (text-some _ _) (c .reply-of .ensures .0 ∙ ap (λ (x : Reply). numberOf (x .number) (eqb (c .before .before .before .print-run .result) 0)) (b .0)) (c .reply-of .ensures .1) (p .0) (p .1)
 
 pub print-bodies-spec : {M : Type 1} → statement M
 print-bodies-spec =

@@ -16,31 +16,31 @@ places-of-requires c κs = head-bytes (c .before .before .before .args .bytes .n
 bodies-fit-requires : tie.Need-bodies-fit-requires
 bodies-fit-requires c κs = rw (c .places-of .ensures) (places-located (c .before .before .before .before .args .bytes .now) (sym (c .before .before .head-fits .ensures) ∙ not-false (c .before .before .head-fits .result) (c .before .if1 .left)))
 
-returns-2 : tie.Need-returns-2
-returns-2 c = rw (no-bodies (c .before .before .before .before .before .before .before .args .bytes .now) (sym (c .before .before .before .before .before .head-fits .ensures) ∙ not-false (c .before .before .before .before .before .head-fits .result) (c .before .before .before .before .if1 .left)) (sym (c .before .before .bodies-fit .ensures) ∙ not-true (c .before .before .bodies-fit .result) (c .before .if2 .taken))) (c .refused2 .ensures)
-
 sub-events : tie.Need-sub-events
 sub-events c =
-    let l = rw (← c .before .before .before .places-of .ensures) at (places-located (c .before .before .before .before .before .before .before .args .bytes .now) (sym (c .before .before .before .before .before .head-fits .ensures) ∙ not-false (c .before .before .before .before .before .head-fits .result) (c .before .before .before .before .if1 .left))) in
+    let l = rw (← c .before .before .places-of .ensures) at (places-located (c .before .before .before .before .before .before .args .bytes .now) (sym (c .before .before .before .before .head-fits .ensures) ∙ not-false (c .before .before .before .before .head-fits .result) (c .before .before .before .if1 .left))) in
     omega (arith, l .events .1)
 
 sub-samples : tie.Need-sub-samples
 sub-samples c =
-    let l = rw (← c .before .before .before .before .places-of .ensures) at (places-located (c .before .before .before .before .before .before .before .before .args .bytes .now) (sym (c .before .before .before .before .before .before .head-fits .ensures) ∙ not-false (c .before .before .before .before .before .before .head-fits .result) (c .before .before .before .before .before .if1 .left))) in
+    let l = rw (← c .before .before .before .places-of .ensures) at (places-located (c .before .before .before .before .before .before .before .args .bytes .now) (sym (c .before .before .before .before .before .head-fits .ensures) ∙ not-false (c .before .before .before .before .before .head-fits .result) (c .before .before .before .before .if1 .left))) in
     omega (arith, l .samples .1)
+
+returns-2 : tie.Need-returns-2
+returns-2 c =
+    let h = sym (c .before .before .before .before .before .before .before .head-fits .ensures) ∙ not-false (c .before .before .before .before .before .before .before .head-fits .result) (c .before .before .before .before .before .before .if1 .left) in
+    rw (reads (c .before .before .before .before .before .before .before .before .before .args .bytes .now) h (sym (c .before .before .before .before .bodies-fit .ensures) ∙ c .before .if2 .taken) (limits-at (c .before .before .before .before .before .before .before .before .before .args .bytes .now) h (c .before .before .before .before .before .places-of .result) (c .before .before .before .before .before .places-of .ensures) ∙ c .if3 .taken)) (refl, c .before .before .before .before .before .places-of .ensures)
 
 returns-3 : tie.Need-returns-3
 returns-3 c =
-    let h = (sym (c .before .before .before .before .before .before .before .head-fits .ensures) ∙ not-false (c .before .before .before .before .before .before .before .head-fits .result) (c .before .before .before .before .before .before .if1 .left)) in
-    rw (reads (c .before .before .before .before .before .before .before .before .before .args .bytes .now) h (sym (c .before .before .before .before .bodies-fit .ensures) ∙ not-false (c .before .before .before .before .bodies-fit .result) (c .before .before .before .if2 .left)) (limits-at (c .before .before .before .before .before .before .before .before .before .args .bytes .now) h (c .before .before .before .before .before .places-of .result) (c .before .before .before .before .before .places-of .ensures) ∙ c .if3 .taken)) (refl, c .before .before .before .before .before .places-of .ensures)
+    let h = sym (c .before .before .before .before .before .before .before .before .head-fits .ensures) ∙ not-false (c .before .before .before .before .before .before .before .before .head-fits .result) (c .before .before .before .before .before .before .before .if1 .left) in
+    rw (over-limits (c .before .before .before .before .before .before .before .before .before .before .args .bytes .now) h (sym (c .before .before .before .before .before .bodies-fit .ensures) ∙ c .before .before .if2 .taken) (limits-at (c .before .before .before .before .before .before .before .before .before .before .args .bytes .now) h (c .before .before .before .before .before .before .places-of .result) (c .before .before .before .before .before .before .places-of .ensures) ∙ c .before .if3 .left)) (c .refused2 .ensures)
 
 returns-4 : tie.Need-returns-4
-returns-4 c =
-    let h = (sym (c .before .before .before .before .before .before .before .before .head-fits .ensures) ∙ not-false (c .before .before .before .before .before .before .before .before .head-fits .result) (c .before .before .before .before .before .before .before .if1 .left)) in
-    rw (over-limits (c .before .before .before .before .before .before .before .before .before .before .args .bytes .now) h (sym (c .before .before .before .before .before .bodies-fit .ensures) ∙ not-false (c .before .before .before .before .before .bodies-fit .result) (c .before .before .before .before .if2 .left)) (limits-at (c .before .before .before .before .before .before .before .before .before .before .args .bytes .now) h (c .before .before .before .before .before .before .places-of .result) (c .before .before .before .before .before .before .places-of .ensures) ∙ c .before .if3 .left)) (c .refused3 .ensures)
+returns-4 c = rw (no-bodies (c .before .before .before .before .before .before .before .before .before .args .bytes .now) (sym (c .before .before .before .before .before .before .before .head-fits .ensures) ∙ not-false (c .before .before .before .before .before .before .before .head-fits .result) (c .before .before .before .before .before .before .if1 .left)) (sym (c .before .before .before .before .bodies-fit .ensures) ∙ c .before .if2 .left)) (c .refused3 .ensures)
 
 pub read-sheet-spec : {M : Type 1} → statement M
 read-sheet-spec =
     tie.close
     (tie.spec
-    (λ c κs. search needs) (λ c κs. search needs) returns places-of-requires bodies-fit-requires (λ c κs. search needs) returns-2 sub-events sub-samples (λ c κs. search needs) returns-3 returns-4)
+    (λ c κs. search needs) (λ c κs. search needs) returns places-of-requires bodies-fit-requires sub-events sub-samples (λ c κs. search needs) (λ c κs. search needs) returns-2 returns-3 returns-4)

@@ -5,7 +5,6 @@ use borrow.Author.Tests.{not-true, not-false}
 use mathlib.Core.List.{[], _∷_}
 use Prim.Native.Nat.{ℕ, _*_}
 use lib.ListN.{length}
-use lib.Ieee.{ofBits}
 use Rattle.binary64.specs.Doubles.{plusZero}
 use Rattle.linear_pk.specs.LinearPk.{stateCount}
 use Rattle.protocol.specs.Execute.{Row}
@@ -16,17 +15,16 @@ use Rattle.simulate_words.proofs.simulate_words.Statement.{statement}
 use Rattle.simulate_words.proofs.simulate_words.Tie as tie
 
 returns : tie.Need-returns
-unfolding ofBits
 returns c =
-    let g = c .before .before .before .before .before .before .before .before .args in
-    rw (unfit (g .kernel) (g .amounts .now) (g .window) (g .events .now) (g .samples .now) (room (length (g .times .now)) (length (g .sides .now)) (length (g .values .now))) (sym (c .before .events-fit .ensures) ∙ not-true (c .before .events-fit .result) (c .if1 .taken))) (refl, (refl, (refl, refl)))
+    let g = c .before .before .before .before .before .before .before .before .before .args in
+    rw (unfit (g .kernel) (g .amounts .now) (g .window) (g .events .now) (g .samples .now) (room (length (g .times .now)) (length (g .sides .now)) (length (g .values .now))) (sym (c .before .before .events-fit .ensures) ∙ not-true (c .before .before .events-fit .result) (c .before .if1 .taken))) (c .report-of .ensures, (refl, (refl, refl)))
 
 returns-2 : tie.Need-returns-2
 returns-2 c =
     let g = c .before .before .before .before .before .before .before .before .before .before .before .before .before .before .before .before .before .before .before .before .args in
     let h = sym (c .before .before .before .before .before .before .before .before .before .before .before .before .before .events-fit .ensures) ∙ not-false (c .before .before .before .before .before .before .before .before .before .before .before .before .before .events-fit .result) (c .before .before .before .before .before .before .before .before .before .before .before .before .if1 .left) in
     let s = rw (c .before .before .before .before .before .before .before .before .before .before .before .events-of .ensures) at (c .before .before .before .before .before .before .before .simulate .ensures) in (
-      c .report-of .ensures ∙ s .0 ∙ ap replyOf (words-entry (g .kernel) (g .amounts .now) (g .window) (g .events .now) (g .samples .now) (room (length (g .times .now)) (length (g .sides .now)) (length (g .values .now))) h),
+      c .report-of2 .ensures ∙ s .0 ∙ ap replyOf (words-entry (g .kernel) (g .amounts .now) (g .window) (g .events .now) (g .samples .now) (room (length (g .times .now)) (length (g .sides .now)) (length (g .values .now))) h),
       (
         s .1 .0 ∙ words-exit (g .kernel) (g .amounts .now) (g .window) (g .events .now) (g .samples .now) (room (length (g .times .now)) (length (g .sides .now)) (length (g .values .now))) h plusZero (λ (r : Row). r .time ∷ []) (λ (n : ℕ). n) (g .times .now),
         (
@@ -40,4 +38,4 @@ pub simulate-words-spec : {M : Type 1} → statement M
 simulate-words-spec =
     tie.close
     (tie.spec
-    (λ c κs. search needs) returns (λ c κs. search needs) (λ c κs. search needs) (λ c κs. search needs) (λ c. search needs) (λ c. search needs) (λ c. search needs) returns-2)
+    (λ c κs. search needs) (λ c κs. search needs) returns (λ c κs. search needs) (λ c κs. search needs) (λ c κs. search needs) (λ c. search needs) (λ c. search needs) (λ c. search needs) returns-2)

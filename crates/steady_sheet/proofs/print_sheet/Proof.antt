@@ -4,9 +4,7 @@ use mathlib.Core.List.{[]}
 use native.Mathlib.Omega.{arith}
 use Rattle.refusal.specs.Numbers.{resultOf}
 use Rattle.refusal.specs.declared.Reply.{Reply}
-use Rattle.refusal.proofs.Numbers.{refusal-number}
 use Rattle.sheet.specs.Sheet.{wordsOf, Sheet}
-use Rattle.printout_reply.specs.Replies.{refusal}
 use Rattle.printout_reply.proofs.Replies.{prints-same}
 use Rattle.steady_printout.specs.SteadyPrintout.{steadyText}
 use Rattle.steady_reply_printout.specs.SteadyReplies.{steadyPrintout}
@@ -18,9 +16,6 @@ use borrow.Author.Needs.{needs}
 use Rattle.steady_sheet.proofs.print_sheet.Statement.{statement}
 use Rattle.steady_sheet.proofs.print_sheet.Tie as tie
 
-print-refusal-requires : tie.Need-print-refusal-requires
-print-refusal-requires c κs = omega (arith, refusal-number (c .before .before .before .reply .given .0 .0), c .before .number .ensures)
-
 print-kernel-requires : tie.Need-print-kernel-requires
 print-kernel-requires c κs =
     let s = c .before .before .before .before .before .before .before .before .before .before in
@@ -29,10 +24,10 @@ print-kernel-requires c κs =
 returns : tie.Need-returns
 unfolding steadySheet steadyText
 returns c =
-    let g = c .before .before .before .before .before .before .before .before .before .before .before .before .before .before .args in
+    let g = c .before .before .before .before .before .before .before .before .before .before .before .before .before .args in
     let s : Sheet = record { model = wordsOf (g .model .now); window = wordsOf (g .window .now); amounts = []; samples = wordsOf (g .samples .now); events = wordsOf (g .events .now) } in
-    let m = sym (c .before .before .before .before .before .before .before .before .kernel-of .ensures .0) ∙ ap (λ (r : Reply). resultOf r (c .before .before .before .before .before .before .before .before .kernel-of .result .kernel)) (c .before .before .before .before .before .before .reply .given .1) in
-    prints-same (ap refusal (c .before .before .before .before .number .ensures) ∙ sym (ap steadyPrintout (sheet-refused steadyWith s m))) (c .before .before .print-refusal .ensures)
+    let m = sym (c .before .before .before .before .before .before .before .kernel-of .ensures .0) ∙ ap (λ (r : Reply). resultOf r (c .before .before .before .before .before .before .before .kernel-of .result .kernel)) (c .before .before .before .before .before .reply .given .1) in
+    prints-same (sym (ap steadyPrintout (sheet-refused steadyWith s m))) (c .before .before .print-refusal .ensures)
 
 returns-2 : tie.Need-returns-2
 unfolding steadySheet
@@ -46,4 +41,4 @@ pub print-sheet-spec : {M : Type 1} → statement M
 print-sheet-spec =
     tie.close
     (tie.spec
-    (λ c κs. search needs) (λ c. search needs) (λ c κs. search needs) print-refusal-requires (λ c. search needs) print-kernel-requires (λ c. search needs) returns (λ c. search needs) returns-2)
+    (λ c κs. search needs) (λ c. search needs) (λ c κs. search needs) (λ c. search needs) print-kernel-requires (λ c. search needs) returns (λ c. search needs) returns-2)
