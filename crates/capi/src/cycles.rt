@@ -99,5 +99,6 @@ pub extern "C" fn linear_pk_periodic_steady_state(
     );
     *time = told.time;
     *maximum = told.maximum;
-    told.number
+    let reply = told.reply;
+    refusal::number(reply)
 }

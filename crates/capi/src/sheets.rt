@@ -9,7 +9,8 @@ pub extern "C" fn rig_run_sheet(sheet: &[u8], out: &mut [u8], length: &mut usize
     ensures { λ r. ⌜ now (length .exit) ≡ printedLength (printoutOfBytes (now (sheet .entry)) .text) (now (out .entry)) ⌝ }
     ensures { λ r. ⌜ now (out .exit) ≡ printed (printoutOfBytes (now (sheet .entry)) .text) (now (out .entry)) ⌝ }
 {
-    let reply = rig::run_sheet(sheet, out);
-    *length = reply.length;
-    reply.number
+    let printout = rig::run_sheet(sheet, out);
+    *length = printout.length;
+    let reply = printout.reply;
+    refusal::number(reply)
 }

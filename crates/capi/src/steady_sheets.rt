@@ -10,7 +10,8 @@ pub extern "C" fn rig_steady_sheet(sheet: &[u8], out: &mut [u8], length: &mut us
     ensures { λ r. ⌜ now (length .exit) ≡ printedLength (steadyPrintoutOfBytes (now (sheet .entry)) .text) (now (out .entry)) ⌝ }
     ensures { λ r. ⌜ now (out .exit) ≡ printed (steadyPrintoutOfBytes (now (sheet .entry)) .text) (now (out .entry)) ⌝ }
 {
-    let reply = steady_sheet::steady_sheet(sheet, out);
-    *length = reply.length;
-    reply.number
+    let printout = steady_sheet::steady_sheet(sheet, out);
+    *length = printout.length;
+    let reply = printout.reply;
+    refusal::number(reply)
 }

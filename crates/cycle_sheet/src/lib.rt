@@ -12,6 +12,7 @@ ghost use mathlib.Core.Bool.{true};
 ghost use mathlib.Core.List.{[]};
 ghost use Prim.Native.Nat.{_/_, _≤_};
 ghost use lib.ListN.{length};
+ghost use Rattle.refusal.specs.Numbers.{replyNumber};
 ghost use Rattle.refusal.specs.Result.{done};
 ghost use Rattle.linear_pk.specs.LinearPk.{sound};
 ghost use Rattle.printout.specs.Cells.{printed, printedLength};
@@ -84,7 +85,7 @@ fn print_sheet(
 
 // The printout of a sheet's next cycle, from the front of out. Where it has no room there nothing is written, and an answer is 4.
 pub fn cycle_sheet(bytes: &[u8], out: &mut [u8]) -> PrintReply
-    ensures { λ r. ⌜ r .number ≡ numberInto (now (out .entry)) (cyclePrintoutOfBytes (now (bytes .entry))) ⌝ }
+    ensures { λ r. ⌜ replyNumber (r .reply) ≡ numberInto (now (out .entry)) (cyclePrintoutOfBytes (now (bytes .entry))) ⌝ }
     ensures { λ r. ⌜ r .length ≡ printedLength (cyclePrintoutOfBytes (now (bytes .entry)) .text) (now (out .entry)) ⌝ }
     ensures { λ r. ⌜ now (out .exit) ≡ printed (cyclePrintoutOfBytes (now (bytes .entry)) .text) (now (out .entry)) ⌝ }
 {

@@ -8,6 +8,7 @@ use lib.Dec.{eqb}
 use lib.ListN.{length, drop}
 use lib.Seq.{drop-length}
 use lib.Ieee.{Float}
+use Rattle.refusal.specs.Numbers.{replyNumber}
 use Rattle.printout.specs.Cells.{printed, printedLength}
 use Rattle.linear_pk.specs.declared.kernel.LinearPk.{LinearPk}
 use Rattle.cycle.specs.Closed.{Timed, stopped, got, Solved, SteadyReply, steadyReplyOf, answerAtExit}
@@ -27,7 +28,7 @@ use Rattle.next_printout.proofs.Printing.{text-some}
 
 -- ---- a refusal
 pub refused-prints : {o : Timed NextCycle} {c : ℕ} {t : Float} → o ≡ stopped c t → (c ≡ 0 → ⊥) → (m : Float) (starts residuals : List Float) → {old new : List ℕ} {reply : PrintReply} {length' : ℕ}
-    → reply .number ≡ numberOf c (eqb length' 0) → reply .length ≡ length' → length' ≡ printedLength (steadyText (replyOf c t 0 m starts residuals)) old
+    → replyNumber (reply .reply) ≡ numberOf c (eqb length' 0) → reply .length ≡ length' → length' ≡ printedLength (steadyText (replyOf c t 0 m starts residuals)) old
     → new ≡ printed (steadyText (replyOf c t 0 m starts residuals)) old → Prints (cyclePrintout o) old reply new
 unfolding cycleText steadyText
 refused-prints {o} {c} {t} e h m starts residuals {old} {new} {reply} {length'} a b written cells =

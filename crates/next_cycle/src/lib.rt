@@ -9,6 +9,7 @@ use steady_reply::SteadyReply;
 ghost use mathlib.Core.Path.{_≡_};
 ghost use Prim.Native.Nat.{_/_, _≤_};
 ghost use lib.ListN.{length};
+ghost use Rattle.refusal.specs.Numbers.{replyNumber};
 ghost use Rattle.refusal.specs.Result.{done};
 ghost use Rattle.linear_pk.specs.LinearPk.{sound, stateCount};
 ghost use Rattle.steady_reply.specs.Entry.{steadyReply};
@@ -17,22 +18,22 @@ ghost use Rattle.printout_reply.specs.Replies.{Prints};
 ghost use Rattle.next_run.specs.NextRun.{nextWith};
 ghost use Rattle.next_printout.specs.NextPrintout.{cyclePrintout};
 
-// The number and the time of a refusal; 0 where there is none.
-struct Refusal {
-    number: u64,
+// Whether a cycle is solved, or its refusal, and the time of that.
+struct Refused {
+    reply: Reply,
     time: f64,
 }
 
-fn refusal_of(reply: SteadyReply) -> Refusal
-    ensures { λ r. ⌜ (r .number ≡ steadyReply reply .number) × (r .time ≡ steadyReply reply .time) ⌝ }
+fn refusal_of(reply: SteadyReply) -> Refused
+    ensures { λ r. ⌜ (replyNumber (r .reply) ≡ steadyReply reply .number) × (r .time ≡ steadyReply reply .time) ⌝ }
 {
     match reply {
-        SteadyReply::Refused { refusal, time } => {
-            let number = refusal::number(Reply::Refused(refusal));
-            Refusal { number, time }
-        }
-        SteadyReply::Solved { maximum: _ } => Refusal {
-            number: 0,
+        SteadyReply::Refused { refusal, time } => Refused {
+            reply: Reply::Refused(refusal),
+            time,
+        },
+        SteadyReply::Solved { maximum: _ } => Refused {
+            reply: Reply::Done,
             time: 0.0,
         },
     }
@@ -57,7 +58,7 @@ pub fn next_bodies(
         × (770 ≤ length (now times)) × (770 ≤ length (now sides)) × (3080 ≤ length (now values)) ⌝ }
     ensures { λ r. ⌜ Prints (cyclePrintout (nextWith kernel (wordsOf (now (window .entry))) (wordsOf (now (samples .entry))) (wordsOf (now (events .entry))))) (now (out .entry)) r (now (out .exit)) ⌝ }
 {
-    let refusal = refusal_of(solve_bodies(
+    let refused = refusal_of(solve_bodies(
         kernel,
         window,
         samples,
@@ -66,7 +67,9 @@ pub fn next_bodies(
         amounts,
         residual,
     ));
-    if refusal.number == 0 {
+    let reply = refused.reply;
+    let number = refusal::number(reply);
+    if number == 0 {
         return print_next(
             kernel,
             window,
@@ -81,6 +84,6 @@ pub fn next_bodies(
             out,
         );
     }
-    let length = print_steady(refusal.number, refusal.time, 0, 0.0, amounts, residual, out);
-    printout_reply::reply_of(refusal.number, length)
+    let length = print_steady(number, refused.time, 0, 0.0, amounts, residual, out);
+    printout_reply::reply_of(reply, length)
 }

@@ -8,6 +8,7 @@ use lib.Dec.{eqb}
 use lib.ListN.{length, take, drop, length-append, length-take, length-drop}
 use lib.Seq.{take-all, length-take-le}
 use lib.Ieee.{Float}
+use Rattle.refusal.specs.Numbers.{replyNumber}
 use Rattle.printout.specs.Cells.{printed, printedLength}
 use Rattle.printout.proofs.Lengths.{part-size}
 use Rattle.cycle.specs.declared.SteadyStateTolerance.{SteadyStateTolerance}
@@ -45,7 +46,7 @@ module _ (tol : SteadyStateTolerance) (n : ℕ) (starts residuals values : List 
   same-cycle = rw (part-size from n, take-all n starts (omega arith), take-all n residuals (omega arith), take-all n (take n (drop from values)) (omega (arith, length-take n (drop from values))))
 
   pub next-prints : {o : Timed NextCycle} → o ≡ got ending → {tol' : SteadyStateTolerance} {m : ℕ} → tol' ≡ tol → m ≡ n → {old new : List ℕ} {reply : PrintReply} {length' : ℕ}
-      → reply .number ≡ numberOf 0 (eqb length' 0) → reply .length ≡ length'
+      → replyNumber (reply .reply) ≡ numberOf 0 (eqb length' 0) → reply .length ≡ length'
       → length' ≡ printedLength (linesText (cycleOf tol' m starts (take (from + m - from) (drop from values)) residuals)) old
       → new ≡ printed (linesText (cycleOf tol' m starts (take (from + m - from) (drop from values)) residuals)) old → Prints (cyclePrintout o) old reply new
   unfolding cycleText

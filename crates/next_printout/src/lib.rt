@@ -4,6 +4,7 @@ use cycle_tolerance::tolerance_of;
 use linear_pk::LinearPk;
 use next_run::run_next;
 use printout_reply::PrintReply;
+use refusal::Reply;
 ghost use mathlib.Core.Path.{_≡_};
 ghost use Prim.Native.Nat.{_/_, _≤_};
 ghost use lib.ListN.{length};
@@ -51,5 +52,5 @@ pub fn print_next(
     let end = from + n;
     let tolerance = tolerance_of(window);
     let length = print_cycle(tolerance, n, amounts, &values[from..end], residual, out);
-    printout_reply::reply_of(0, length)
+    printout_reply::reply_of(Reply::Done, length)
 }

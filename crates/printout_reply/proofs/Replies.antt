@@ -8,6 +8,7 @@ use borrow.Author.Tests.{ne-eqb, leb-true}
 use lib.Dec.{eqb, leb}
 use lib.ListN.{length}
 use lib.Ieee.{Float}
+use Rattle.refusal.specs.Numbers.{replyNumber}
 use Rattle.printout.specs.Printout.{rowsText, refusedText, runText}
 use Rattle.printout.specs.Cells.{printed, printedLength}
 use Rattle.printout_reply.specs.Printouts.{Printout, numberOf}
@@ -26,7 +27,7 @@ refusal-some c t = omega arith
 
 module _ {p : Printout} {old new text : List ℕ} {r : PrintReply} {length' : ℕ} where
   -- none written is no room
-  pub prints : text ≡ p .text → 1 ≤ length (p .text) → r .number ≡ numberOf (p .number) (eqb length' 0) → r .length ≡ length' → length' ≡ printedLength text old → new ≡ printed text old → Prints p old r new
+  pub prints : text ≡ p .text → 1 ≤ length (p .text) → replyNumber (r .reply) ≡ numberOf (p .number) (eqb length' 0) → r .length ≡ length' → length' ≡ printedLength text old → new ≡ printed text old → Prints p old r new
   prints e some number same written cells = record {
     number = number ∙ ap (λ (l : ℕ). numberOf (p .number) (eqb l 0)) (written ∙ ap (λ (x : List ℕ). printedLength x old) e) ∙ ap (numberOf (p .number)) (on (length (p .text)) (leb (length (p .text)) (length old)) some);
     length = same ∙ written ∙ ap (λ (x : List ℕ). printedLength x old) e;

@@ -3,13 +3,14 @@ use mathlib.Core.Path.{_≡_}
 use mathlib.Core.List.{List}
 use Prim.Native.Nat.{ℕ}
 use Rattle.binary64.specs.Doubles.{plusZero}
+use Rattle.refusal.specs.Numbers.{replyNumber}
 use Rattle.printout.specs.Printout.{refusedText}
 use Rattle.printout.specs.Cells.{printed, printedLength}
 use Rattle.printout_reply.specs.Printouts.{Printout, numberInto}
 use Rattle.printout_reply.specs.declared.PrintReply.{PrintReply}
 
 pub record Prints (p : Printout) (old : List ℕ) (r : PrintReply) (new : List ℕ) : Type 0 where
-  pub number : r .number ≡ numberInto old p
+  pub number : replyNumber (r .reply) ≡ numberInto old p
   pub length : r .length ≡ printedLength (p .text) old
   pub cells : new ≡ printed (p .text) old
 

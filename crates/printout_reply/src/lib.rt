@@ -3,24 +3,36 @@ use refusal::Refusal;
 use refusal::Reply;
 ghost use mathlib.Core.Path.{_≡_};
 ghost use lib.Dec.{eqb};
-ghost use Rattle.refusal.specs.Numbers.{refusalNumber};
+ghost use Rattle.refusal.specs.Numbers.{refusalNumber, replyNumber};
 ghost use Rattle.printout_reply.specs.Printouts.{numberOf};
 ghost use Rattle.printout_reply.specs.Replies.{Prints, refusal as refusalOf};
 
-// The printout's number, and how many bytes it has, 0 where the output is too short; an answer without room is 4.
+// Whether the printout is an answer, and how many bytes it has, 0 where the output is too short; an answer without room is 4.
 pub struct PrintReply {
-    pub number: u64,
+    pub reply: Reply,
     pub length: usize,
 }
 
-// A text has bytes: none of them stands for no room. A refusal keeps its number without it.
-pub fn reply_of(number: u64, length: usize) -> PrintReply
-    ensures { λ r. ⌜ (r .number ≡ numberOf number (eqb length 0)) × (r .length ≡ length) ⌝ }
+fn is_answer(reply: Reply) -> bool
+    ensures { λ r. ⌜ r ≡ eqb (replyNumber reply) 0 ⌝ }
 {
-    if (number == 0) & (length == 0) {
-        return PrintReply { number: 4, length };
+    match reply {
+        Reply::Refused(_) => false,
+        Reply::Done => true,
     }
-    PrintReply { number, length }
+}
+
+// A text has bytes: none of them stands for no room. A refusal keeps its number without it.
+pub fn reply_of(reply: Reply, length: usize) -> PrintReply
+    ensures { λ r. ⌜ (replyNumber (r .reply) ≡ numberOf (replyNumber reply) (eqb length 0)) × (r .length ≡ length) ⌝ }
+{
+    if is_answer(reply) & (length == 0) {
+        return PrintReply {
+            reply: Reply::Refused(Refusal::ShortSlice),
+            length,
+        };
+    }
+    PrintReply { reply, length }
 }
 
 // A refusal ahead of the run.
@@ -41,5 +53,5 @@ pub fn print_refusal(refusal: Refusal, out: &mut [u8]) -> PrintReply
         &reals[..],
         out,
     );
-    reply_of(number, length)
+    reply_of(Reply::Refused(refusal), length)
 }

@@ -47,14 +47,19 @@ fn compared(entry: u64, sheet: &[u8; SHEET], bytes: usize, number: u64, text: &[
     }
     let mut less = [CELL; TEXT];
     let short = printed(entry, sheet, bytes, &mut less, n - 1);
-    let refused = (short.number == without_room(number)) & (short.length == 0) & kept(&less, 0);
+    let unwritten = short.reply;
+    let refused = (refusal::number(unwritten) == without_room(number))
+        & (short.length == 0)
+        & kept(&less, 0);
     let mut out = [CELL; TEXT];
-    let reply = printed(entry, sheet, bytes, &mut out, n);
-    let same = (reply.length == n) & has_text(&out, text) & kept(&out, n);
+    let printout = printed(entry, sheet, bytes, &mut out, n);
+    let told = printout.reply;
+    let received = refusal::number(told);
+    let same = (printout.length == n) & has_text(&out, text) & kept(&out, n);
     Outcome::Called {
         entry,
-        reply: reply.number,
-        same: refused & same & (reply.number == number),
+        reply: received,
+        same: refused & same & (received == number),
     }
 }
 

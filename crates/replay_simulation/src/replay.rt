@@ -15,27 +15,13 @@ use crate::shape::Shape;
 use crate::shape::WINDOW;
 use events::EVENTS;
 use protocol::Event;
-use run_report::Report;
+use refusal::Refusal;
 use run_report::RunReply;
 use stored_answers::Outcome;
 use stored_answers::ROOM;
 ghost use Prim.Native.Nat.{_≤_};
 ghost use lib.ListN.{length};
 ghost use Rattle.replay_simulation.specs.Places.{Held};
-
-// The answer where the words of an event do not fit.
-fn unfit() -> Answer {
-    let report = Report {
-        number: 40,
-        time: 0.0,
-        rows: 0,
-        advances: 0,
-    };
-    Answer {
-        report,
-        began: false,
-    }
-}
 
 fn answered(reply: RunReply) -> Answer {
     let report = run_report::report_of(reply);
@@ -45,6 +31,11 @@ fn answered(reply: RunReply) -> Answer {
         RunReply::Reached { .. } => true,
     };
     Answer { report, began }
+}
+
+// The answer where the words of an event do not fit.
+fn unfit() -> Answer {
+    answered(RunReply::Refused(Refusal::Layout))
 }
 
 // Whether the words of the events, which end at a place, are events.

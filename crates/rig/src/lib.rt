@@ -7,6 +7,7 @@ ghost use mathlib.Core.Path.{_≡_};
 ghost use mathlib.Core.Bool.{true};
 ghost use Prim.Native.Nat.{_/_, _≤_};
 ghost use lib.ListN.{length};
+ghost use Rattle.refusal.specs.Numbers.{replyNumber};
 ghost use Rattle.refusal.specs.Result.{done};
 ghost use Rattle.sheet.specs.Sheet.{wordsOf, modelFits};
 ghost use Rattle.printout.specs.Cells.{printed, printedLength};
@@ -40,7 +41,7 @@ fn print_sheet(
 
 // The printout of a sheet, from the front of out. Where it has no room there nothing is written, and an answer is 4.
 pub fn run_sheet(bytes: &[u8], out: &mut [u8]) -> PrintReply
-    ensures { λ r. ⌜ r .number ≡ numberInto (now (out .entry)) (printoutOfBytes (now (bytes .entry))) ⌝ }
+    ensures { λ r. ⌜ replyNumber (r .reply) ≡ numberInto (now (out .entry)) (printoutOfBytes (now (bytes .entry))) ⌝ }
     ensures { λ r. ⌜ r .length ≡ printedLength (printoutOfBytes (now (bytes .entry)) .text) (now (out .entry)) ⌝ }
     ensures { λ r. ⌜ now (out .exit) ≡ printed (printoutOfBytes (now (bytes .entry)) .text) (now (out .entry)) ⌝ }
 {

@@ -3,6 +3,8 @@ use linear_pk::LinearPk;
 use ordered_doses::ordered;
 use printout_reply::PrintReply;
 use printout_reply::reply_of;
+use refusal::Reply;
+use run_report::RunReply;
 use sheet_cells::AMOUNTS;
 use sheet_cells::known;
 use sheet_cells::sample_cells;
@@ -15,7 +17,9 @@ ghost use mathlib.Core.Bool.{cond};
 ghost use Prim.Native.Nat.{_*_, _/_, _≤_};
 ghost use lib.Dec.{leb};
 ghost use lib.ListN.{length};
+ghost use Rattle.refusal.specs.Numbers.{replyNumber};
 ghost use Rattle.linear_pk.specs.LinearPk.{stateCount};
+ghost use Rattle.run_report.specs.Replies.{runReply};
 ghost use Rattle.layout.specs.Layout.{eventsOf};
 ghost use Rattle.sheet.specs.Sheet.{wordsOf};
 ghost use Rattle.printout_reply.specs.Replies.{Prints};
@@ -25,6 +29,24 @@ ghost use Rattle.run_printout.specs.RunPrintout.{runPrintout};
 
 // Bytes of an event.
 const EVENT: usize = 48;
+
+// Whether a run reached its end, or its refusal.
+fn answer_of(run: RunReply) -> Reply
+    ensures { λ r. ⌜ replyNumber r ≡ runReply run .number ⌝ }
+{
+    match run {
+        RunReply::Refused(refusal) => Reply::Refused(refusal),
+        RunReply::Stopped {
+            refusal,
+            time: _,
+            advances: _,
+        } => Reply::Refused(refusal),
+        RunReply::Reached {
+            rows: _,
+            advances: _,
+        } => Reply::Done,
+    }
+}
 
 // The printout of that run.
 fn print_bodies(
@@ -47,7 +69,7 @@ fn print_bodies(
     ensures { λ r. ⌜ Prints (runPrintout (orderedOf (eventsOf (wordsOf (now (events .entry)))))
         (runWith kernel (wordsOf (now (window .entry))) (wordsOf (now (amounts .entry))) (wordsOf (now (samples .entry))) (wordsOf (now (events .entry))))) (now (out .entry)) r (now (out .exit)) ⌝ }
 {
-    let report = simulate_bodies(
+    let run = simulate_bodies(
         kernel,
         window,
         amounts,
@@ -59,6 +81,7 @@ fn print_bodies(
         sides,
         values,
     );
+    let report = run_report::report_of(run);
     let n = kernel.state_count();
     let sum = ordered(events);
     let length = printout::print_run(
@@ -72,7 +95,7 @@ fn print_bodies(
         values,
         out,
     );
-    reply_of(report.number, length)
+    reply_of(answer_of(run), length)
 }
 
 // Cells for the run of a kernel and the other bodies.

@@ -27,9 +27,8 @@ use Rattle.protocol.specs.Entry.{mostEvents, mostSamples, Room, roomFor, ahead,
 use Rattle.protocol.proofs.EntryLaws.{simulate-refuses}
 use Rattle.preparation.specs.Preparation.{ownNumber}
 use Rattle.prepared_run.specs.KernelRun.{propagatorOf}
-use Rattle.simulation.specs.Entries.{room, simulateEntry, runReply, reported}
+use Rattle.simulation.specs.Entries.{room, simulateEntry, runReply}
 use Rattle.run_report.specs.declared.RunReply.{RunReply}
-use Rattle.run_report.specs.declared.Report.{Report}
 use Rattle.layout.specs.Layout.{eventCount, eventsOf, eventOrNone}
 use Rattle.layout.proofs.Laws.{front-events}
 use Rattle.sheet_kernel.specs.Values.{doubleOf, doublesFrom, windowOf}
@@ -77,7 +76,7 @@ module _ (k : LinearPk) (w a ss es : List ℕ) (few : stateCount k ≤ 4) where
       (in-front (propagatorOf k) (ownNumber (sound k)) (stateCount k) (windowOf w) (doublesOf ss) (eventsOf es) (roomOf (reckonedOf ss es) (stateCount k)) (λ (j : ℕ). doubleOf a (0 + j)) (length a) few))
 
   -- the entry's answers are the run's
-  pub entry-answers : (times : List Float) (sides : List ℕ) (values : List Float) (reply : RunReply) (report : Report) {initial readings : List Float} {span : Window} {list : List Event} {count : ℕ} {times' values' : List Float} {sides' : List ℕ} {known samples : ℕ}
+  pub entry-answers : (times : List Float) (sides : List ℕ) (values : List Float) (reply : RunReply) {initial readings : List Float} {span : Window} {list : List Event} {count : ℕ} {times' values' : List Float} {sides' : List ℕ} {known samples : ℕ}
       → initial ≡ doublesFrom a 0 known → readings ≡ doublesFrom ss 0 samples → list ≡ tabulate 192 (eventOrNone es) → span ≡ windowOf w
       → count ≡ eventCount es → count ≤ 64 → known ≡ cond (leb (length a) 5) (length a) 5 → samples ≡ length ss
       → length times ≡ reckonedOf ss es → length sides ≡ reckonedOf ss es → length values ≡ reckonedOf ss es * stateCount k
@@ -85,13 +84,12 @@ module _ (k : LinearPk) (w a ss es : List ℕ) (few : stateCount k ≤ 4) where
       → times' ≡ timesAtExit (reckoned readings (take count list)) (simulateEntry k initial span list count readings (room (length times) (length sides) (length values))) times
       → sides' ≡ sidesAtExit (reckoned readings (take count list)) (simulateEntry k initial span list count readings (room (length times) (length sides) (length values))) sides
       → values' ≡ valuesAtExit (reckoned readings (take count list)) (stateCount k) (simulateEntry k initial span list count readings (room (length times) (length sides) (length values))) values
-      → reported report ≡ runReply reply
-      → (reported report ≡ replyOf (runWith k w a ss es)) × ((times' ≡ timesAtExit (reckonedOf ss es) (runWith k w a ss es) times)
+      → (runReply reply ≡ replyOf (runWith k w a ss es)) × ((times' ≡ timesAtExit (reckonedOf ss es) (runWith k w a ss es) times)
       × ((sides' ≡ sidesAtExit (reckonedOf ss es) (runWith k w a ss es) sides) × (values' ≡ valuesAtExit (reckonedOf ss es) (stateCount k) (runWith k w a ss es) values)))
-  entry-answers times sides values reply report {initial} {readings} {span} {list} {count} {times'} {values'} {sides'} {known} {samples} i r v s c l q m t d u x0 x1 x2 x3 y =
+  entry-answers times sides values reply {initial} {readings} {span} {list} {count} {times'} {values'} {sides'} {known} {samples} i r v s c l q m t d u x0 x1 x2 x3 =
       let same : simulateEntry k initial span list count readings (room (length times) (length sides) (length values)) ≡ runWith k w a ss es = rw (i, r, v, s) (entry-run known count samples (length times) (length sides) (length values) c l q m t d u) in
       let rows : reckoned readings (take count list) ≡ reckonedOf ss es = rw (r, v, m, c, front-events 192 es (omega arith)) in (
-        y ∙ x0 ∙ ap replyOf same,
+        x0 ∙ ap replyOf same,
         (
           x1 ∙ ap₂ (λ (j : ℕ) (o : Result Outcome). timesAtExit j o times) rows same,
           (x2 ∙ ap₂ (λ (j : ℕ) (o : Result Outcome). sidesAtExit j o sides) rows same, x3 ∙ ap₂ (λ (j : ℕ) (o : Result Outcome). valuesAtExit j (stateCount k) o values) rows same),

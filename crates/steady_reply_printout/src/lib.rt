@@ -24,11 +24,11 @@ pub fn print_reply(
         SteadyReply::Refused { refusal, time } => {
             let number = refusal::number(Reply::Refused(refusal));
             let length = print_steady(number, time, n, 0.0, amounts, residual, out);
-            printout_reply::reply_of(number, length)
+            printout_reply::reply_of(Reply::Refused(refusal), length)
         }
         SteadyReply::Solved { maximum } => {
             let length = print_steady(0, 0.0, n, maximum, amounts, residual, out);
-            printout_reply::reply_of(0, length)
+            printout_reply::reply_of(Reply::Done, length)
         }
     }
 }

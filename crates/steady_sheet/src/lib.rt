@@ -7,6 +7,7 @@ ghost use mathlib.Core.Bool.{true};
 ghost use mathlib.Core.List.{[]};
 ghost use Prim.Native.Nat.{_/_, _≤_};
 ghost use lib.ListN.{length};
+ghost use Rattle.refusal.specs.Numbers.{replyNumber};
 ghost use Rattle.printout.specs.Cells.{printed, printedLength};
 ghost use Rattle.sheet.specs.Sheet.{wordsOf, modelFits};
 ghost use Rattle.printout_reply.specs.Printouts.{numberInto};
@@ -39,7 +40,7 @@ fn print_sheet(
 
 // The printout of a sheet's closed cycle, from the front of out. Where it has no room there nothing is written, and an answer is 4.
 pub fn steady_sheet(bytes: &[u8], out: &mut [u8]) -> PrintReply
-    ensures { λ r. ⌜ r .number ≡ numberInto (now (out .entry)) (steadyPrintoutOfBytes (now (bytes .entry))) ⌝ }
+    ensures { λ r. ⌜ replyNumber (r .reply) ≡ numberInto (now (out .entry)) (steadyPrintoutOfBytes (now (bytes .entry))) ⌝ }
     ensures { λ r. ⌜ r .length ≡ printedLength (steadyPrintoutOfBytes (now (bytes .entry)) .text) (now (out .entry)) ⌝ }
     ensures { λ r. ⌜ now (out .exit) ≡ printed (steadyPrintoutOfBytes (now (bytes .entry)) .text) (now (out .entry)) ⌝ }
 {

@@ -3,6 +3,7 @@ use mathlib.Core.Bool.{Bool}
 use mathlib.Core.List.{List}
 use Prim.Native.Nat.{ℕ}
 use lib.Ieee.{Float}
+use Rattle.refusal.specs.Numbers.{replyNumber}
 use Rattle.linear_pk.specs.declared.kernel.LinearPk.{LinearPk}
 use Rattle.layout.specs.Layout.{eventCount, eventsFit, eventsOf}
 use Rattle.protocol.specs.declared.Window.{Window}
@@ -17,4 +18,4 @@ unfolding steadyEntry
 steadyWords k w ss ws tol room = then (unlessFails (eventsFit ws) 40 ws) (λ ws. steadyEntry k w ss (eventsOf ws) (eventCount ws) tol room)
 
 abbrev pub reported : SteadyReport → SteadyReply
-reported r = record { number = r .number; time = r .time; greatest = r .maximum }
+reported r = record { number = replyNumber (r .reply); time = r .time; greatest = r .maximum }

@@ -2,6 +2,7 @@
 use cycle::SteadyStateTolerance;
 use linear_pk::LinearPk;
 use protocol::Window;
+use refusal::Refusal;
 use refusal::Reply;
 use steady_reply::SteadyReply;
 ghost use mathlib.Core.Path.{_≡_};
@@ -13,9 +14,9 @@ ghost use Rattle.steady_words.specs.Words.{steadyWords, reported};
 // Words of an event.
 const WORDS: usize = 6;
 
-// A reply as numbers; 0 is the number of a cycle that is accepted.
+// Whether a cycle is accepted, or its refusal, with the values of either.
 pub struct SteadyReport {
-    pub number: u64,
+    pub reply: Reply,
     pub time: f64,
     pub maximum: f64,
 }
@@ -24,16 +25,13 @@ fn report_of(reply: SteadyReply) -> SteadyReport
     ensures { λ r. ⌜ reported r ≡ steadyReply reply ⌝ }
 {
     match reply {
-        SteadyReply::Refused { refusal, time } => {
-            let number = refusal::number(Reply::Refused(refusal));
-            SteadyReport {
-                number,
-                time,
-                maximum: 0.0,
-            }
-        }
+        SteadyReply::Refused { refusal, time } => SteadyReport {
+            reply: Reply::Refused(refusal),
+            time,
+            maximum: 0.0,
+        },
         SteadyReply::Solved { maximum } => SteadyReport {
-            number: 0,
+            reply: Reply::Done,
             time: 0.0,
             maximum,
         },
@@ -55,11 +53,7 @@ pub fn steady_words(
     ensures { λ r. ⌜ now (residual .exit) ≡ answerAtExit (λ s. s .residuals) (steadyWords kernel window (now (samples .entry)) (now (events .entry)) tolerance (steadyRoom kernel (length (now (amounts .entry))) (length (now (residual .entry))))) (now (residual .entry)) ⌝ }
 {
     if !layout::events_fit(events) {
-        return SteadyReport {
-            number: 40,
-            time: 0.0,
-            maximum: 0.0,
-        };
+        return report_of(steady_reply::refused(Refusal::Layout));
     }
     let list = layout::events_of(events);
     let count = events.len() / WORDS;

@@ -19,7 +19,7 @@ print-next-requires c κs =
     let g = s .args in
     let k = steady-kept (g .kernel) (wordsOf (g .window .now)) (wordsOf (g .samples .now)) (wordsOf (g .events .now)) (s .pre .0) in
     let o = steadyWith (g .kernel) (wordsOf (g .window .now)) (wordsOf (g .samples .now)) (wordsOf (g .events .now)) in
-    let v = told-solved (stateCount (g .kernel)) o k (c .before .before .before .before .before .before .before .before .before .before .before .before .before .before .before .before .solve-bodies .ensures) (sym (c .before .before .before .before .before .before .before .before .before .refusal-of .ensures .0) ∙ c .before .before .before .before .before .before .before .if1 .taken) (s .pre .5) (s .pre .6) in
+    let v = told-solved (stateCount (g .kernel)) o k (c .before .before .before .before .before .before .before .before .before .before .before .before .before .before .before .before .solve-bodies .ensures) (sym (c .before .before .before .before .before .before .before .before .number .ensures ∙ c .before .before .before .before .before .before .before .before .before .refusal-of .ensures .0) ∙ c .before .before .before .before .before .before .before .if1 .taken) (s .pre .5) (s .pre .6) in
     (s .pre .0, s .pre .1, s .pre .2, s .pre .3, c .before .before .before .before .before .before .before .before .before .before .before .before .before .before .before .readings .given ∙ s .pre .4, v, s .pre .7, s .pre .8, s .pre .9)
 
 returns-2 : tie.Need-returns-2
@@ -28,14 +28,15 @@ returns-2 c =
     let g = s .args in
     let k = steady-kept (g .kernel) (wordsOf (g .window .now)) (wordsOf (g .samples .now)) (wordsOf (g .events .now)) (s .pre .0) in
     let o = steadyWith (g .kernel) (wordsOf (g .window .now)) (wordsOf (g .samples .now)) (wordsOf (g .events .now)) in
-    let p = c .before .before .before .print-steady .ensures in
+    let m = c .before .before .before .before .before .before .before .before .number .ensures in
+    let p = rw m at (c .before .before .before .print-steady .ensures) in
     let e = c .before .before .before .before .before .before .before .before .before .refusal-of .ensures in
     let h = c .before .before .before .before .before .before .before .if1 .left in
-    let q = told-refused (stateCount (g .kernel)) o k (c .before .before .before .before .before .before .before .before .before .before .before .before .before .before .before .before .solve-bodies .ensures) (λ z. h (e .0 ∙ z)) ∙ ap₂ (λ (j : ℕ) (t : Float). stopped j t) (sym (e .0)) (sym (e .1)) in
-    refused-prints (next-stops (g .kernel) (wordsOf (g .window .now)) (wordsOf (g .samples .now)) (wordsOf (g .events .now)) q) h _ [] [] (c .reply-of .ensures .0) (c .reply-of .ensures .1) (p .0) (p .1)
+    let q = told-refused (stateCount (g .kernel)) o k (c .before .before .before .before .before .before .before .before .before .before .before .before .before .before .before .before .solve-bodies .ensures) (λ z. h (m ∙ e .0 ∙ z)) ∙ ap₂ (λ (j : ℕ) (t : Float). stopped j t) (sym (e .0)) (sym (e .1)) in
+    refused-prints (next-stops (g .kernel) (wordsOf (g .window .now)) (wordsOf (g .samples .now)) (wordsOf (g .events .now)) q) (λ z. h (m ∙ z)) _ [] [] (c .reply-of .ensures .0) (c .reply-of .ensures .1) (p .0) (p .1)
 
 pub next-bodies-spec : {M : Type 1} → statement M
 next-bodies-spec =
     tie.close
     (tie.spec
-    (λ c κs. search needs) (λ c κs. search needs) print-next-requires (λ c. search needs) (λ c. search needs) (λ c. search needs) (λ c. search needs) (λ c. search needs) (λ c. search needs) (λ c. search needs) (λ c. search needs) (λ c κs. search needs) (λ c κs. search needs) (λ c. search needs) (λ c. search needs) (λ c. search needs) (λ c. search needs) returns-2)
+    (λ c κs. search needs) (λ c κs. search needs) (λ c κs. search needs) print-next-requires (λ c. search needs) (λ c. search needs) (λ c. search needs) (λ c. search needs) (λ c. search needs) (λ c. search needs) (λ c. search needs) (λ c. search needs) (λ c κs. search needs) (λ c κs. search needs) (λ c. search needs) (λ c. search needs) (λ c. search needs) (λ c. search needs) returns-2)

@@ -6,7 +6,7 @@ use Rattle.next_cycle.proofs.refusal_of.Statement.{statement}
 use Rattle.next_cycle.proofs.refusal_of.Tie as tie
 
 returns : tie.Need-returns
-returns c = rw (c .before .before .reply .given .1) (c .number .ensures, refl)
+returns c = rw (c .before .reply .given .1) (refl, refl)
 
 returns-2 : tie.Need-returns-2
 unfolding ofBits
@@ -16,4 +16,4 @@ pub refusal-of-spec : {M : Type 1} → statement M
 refusal-of-spec =
     tie.close
     (tie.spec
-    (λ c. search needs) (λ c κs. search needs) (λ c. search needs) returns returns-2)
+    (λ c. search needs) (λ c. search needs) returns returns-2)

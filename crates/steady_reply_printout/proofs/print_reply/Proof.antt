@@ -10,8 +10,8 @@ use Rattle.steady_reply_printout.proofs.print_reply.Tie as tie
 returns : tie.Need-returns
 unfolding ofBits
 returns c =
-    let p = c .before .before .before .print-steady .ensures in
-    rw (c .before .before .before .before .before .before .before .reply .given .1, ← c .before .before .before .before .before .number .ensures) (prints refl (text-some _) (c .reply-of .ensures .0) (c .reply-of .ensures .1) (p .0) (p .1))
+    let p = rw (c .before .before .before .before .before .number .ensures) at (c .before .before .before .print-steady .ensures) in
+    rw (c .before .before .before .before .before .before .before .reply .given .1) (prints refl (text-some _) (c .reply-of .ensures .0) (c .reply-of .ensures .1) (p .0) (p .1))
 
 returns-2 : tie.Need-returns-2
 unfolding ofBits

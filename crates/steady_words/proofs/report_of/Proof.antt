@@ -6,11 +6,11 @@ use Rattle.steady_words.proofs.report_of.Tie as tie
 
 returns : tie.Need-returns
 unfolding ofBits
-returns c = rw (c .before .before .reply .given .1, c .number .ensures)
+returns c = rw (c .before .reply .given .1)
 
 returns-2 : tie.Need-returns-2
 unfolding ofBits
 returns-2 c = rw (c .before .reply2 .given .1)
 
 pub report-of-spec : {M : Type 1} → statement M
-report-of-spec = tie.close (tie.spec (λ c. search needs) (λ c κs. search needs) (λ c. search needs) returns returns-2)
+report-of-spec = tie.close (tie.spec (λ c. search needs) (λ c. search needs) returns returns-2)
