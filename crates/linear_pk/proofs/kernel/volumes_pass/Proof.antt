@@ -3,6 +3,7 @@ use mathlib.Core.Path.{_≡_, sym, _∙_}
 use mathlib.Core.Bool.{true}
 use Prim.Native.Nat.{ℕ}
 use borrow.Author.Needs.{needs}
+use native.Mathlib.Omega.{arith}
 use Rattle.linear_pk.specs.LinearPk.{counted, stateCount}
 use Rattle.linear_pk.specs.declared.kernel.LinearPk.{LinearPk}
 use Rattle.linear_pk.proofs.Counted.{no-states, some-states, few-volumes, volumes-by}
@@ -26,4 +27,4 @@ volumes-pass-spec =
     tie.close
     (tie.spec
     (λ c κs. search needs) returns
-    (λ c κs. let s = c .before in few-volumes (s .before .before .args .kernel) (counts _ (s .before .state-count .ensures .0) (s .if1 .left))) returns-2)
+    (λ c κs. let s = c .before in omega (arith, few-volumes (s .before .before .args .kernel) (counts _ (s .before .state-count .ensures .0) (s .if1 .left)))) returns-2)
