@@ -82,7 +82,7 @@ not-zero h e = absurd (no h e)
     no : {m : ℕ} → 0 < m → m ≡ 0 → ⊥
     no h e = omega arith
 
--- ---- a kernel whose own test refuses nothing is one that `new` can have made
+-- ---- a kernel whose own test gives no number passes it
 own-sound : (k : LinearPk) → ownNumber (sound k) ≡ none → sound k ≡ R.done k
 own-sound k = on (volumesPass k)
   where

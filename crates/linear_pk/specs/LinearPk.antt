@@ -47,7 +47,7 @@ noKernel = record { compartments = 0; depot = false; volumes = replicate mostCom
 abbrev pub counted : LinearPk → Bool
 counted k = ltb 0 (k .compartments) && leb (k .compartments) mostCompartments
 
--- how many states; 0 where this is no kernel
+-- how many states; 0 where there are not 1 to 3 volumes
 unfoldable pub stateCount : LinearPk → ℕ
 stateCount k = cond (counted k) (k .compartments + place (k .depot)) 0
 

@@ -23,7 +23,7 @@ pub struct LinearPk {
 }
 
 impl LinearPk {
-    // How many states there are; 0 where this is no kernel.
+    // How many states there are; 0 where there are not 1 to 3 volumes.
     pub fn state_count(self) -> usize
         ensures { λ r. ⌜ (r ≡ stateCount self) × (r ≤ 4) ⌝ }
     {
