@@ -265,7 +265,7 @@ plain f P h (fin true m e) p l = absurd (high f (toBits f (fin true m e)) (le-tr
 plain f P h (fin false m e) p l = h m e (p .0)
 
 -- ---- the masks
--- all w digits set, shifted by k, clear the k lowest digits
+-- all j + k digits set, shifted by k: a mask that clears the k lowest digits
 mask-clears : (j k b : ℕ) → b < 2 ^ (j + k) → bitAnd b ((2 ^ (j + k) - 1) * 2 ^ k % 2 ^ (j + k)) ≡ b / 2 ^ k * 2 ^ k
 mask-clears j k b h = ap (bitAnd b) mask ∙ and-high b j k ∙ ap (λ (x : ℕ). x * 2 ^ k) (shr-mod j k h)
   where
