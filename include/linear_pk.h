@@ -18,7 +18,8 @@
  * is never NULL: an empty slice has any aligned pointer and the count 0.
  *
  * Each function replies 0, or the number of a refusal:
- *    1  parameters outside those that linear_pk_new takes, or a kernel that it did not make
+ *    1  parameters outside those that linear_pk_new takes, or a kernel with a count,
+ *       a depot or a volume that it does not give
  *    2  a rate that is not finite
  *    3  a wrong count, or a value that is not finite or below 0
  *    4  an output slice that is too short
@@ -80,7 +81,8 @@ uint64_t linear_pk_new(double clearance,
                        double *kernel, size_t kernel_len);
 
 /* The number of states n, or 0 where the cells are no kernel: fewer than 21, a
- * number of volumes other than 1, 2, 3, or a depot other than 0, 1. */
+ * number of volumes other than 1, 2, 3, or a depot other than 0, 1. Volumes and
+ * rates are not looked at. */
 uint64_t linear_pk_state_count(const double *kernel, size_t kernel_len);
 
 /* The amounts after a duration at constant input rates (amount by time), n of

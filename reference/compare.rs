@@ -127,12 +127,7 @@ struct Subject<'a> {
 impl Subject<'_> {
     /// The kernel in the cells, or the number that they are refused with.
     fn read(&self) -> Result<Kernel, u64> {
-        let kernel = Kernel::read(&self.cells).ok_or(1_u64)?;
-        if kernel.finite() {
-            Ok(kernel)
-        } else {
-            Err(2)
-        }
+        Kernel::sound(&self.cells)
     }
 
     /// The number of states, for drawing arguments.

@@ -155,10 +155,7 @@ impl Cycle {
         if events.len() > EVENTS || self.samples.len() > SAMPLES {
             return Err(5);
         }
-        let kernel = Kernel::read(&self.cells).ok_or(1_u64)?;
-        if !kernel.finite() {
-            return Err(2);
-        }
+        Kernel::sound(&self.cells)?;
         Ok(events)
     }
 

@@ -620,6 +620,19 @@ fn refused() -> Vec<Fixed> {
         one("1 by cells that are no kernel")
             .forged(|cells| cells.truncate(20))
             .refused(1),
+        one("1 by a volume of 0")
+            .forged(|cells| cells[2] = 0.0)
+            .refused(1),
+        one("1 by a volume that is not finite")
+            .forged(|cells| cells[2] = f64::INFINITY)
+            .refused(1),
+        one("a volume that is not in use says nothing")
+            .forged(|cells| cells[3] = f64::NAN)
+            .bolus(0.0, 0, 1.0)
+            .done(1),
+        two("1 by the second volume")
+            .forged(|cells| cells[3] = -1.0)
+            .refused(1),
         one("2 by a rate")
             .forged(|cells| cells[5] = f64::INFINITY)
             .refused(2),
@@ -667,6 +680,12 @@ fn in_order() -> Vec<Fixed> {
         one("1 ahead of 15")
             .window(1.0, 0.0)
             .forged(Vec::clear)
+            .refused(1),
+        one("1 by a volume, ahead of 2")
+            .forged(|cells| {
+                cells[2] = f64::NAN;
+                cells[5] = f64::NAN;
+            })
             .refused(1),
         one("2 ahead of 15")
             .window(1.0, 0.0)

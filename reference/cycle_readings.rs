@@ -57,12 +57,7 @@ impl Lent<'_> {
     }
 
     fn states(&self) -> Result<usize, u64> {
-        let kernel = Kernel::read(self.kernel).ok_or(1_u64)?;
-        if kernel.finite() {
-            Ok(kernel.n())
-        } else {
-            Err(2)
-        }
+        Kernel::sound(self.kernel).map(|kernel| kernel.n())
     }
 
     fn folded(&self, n: usize, events: Vec<Event>, reading: Reading) -> List {
@@ -226,8 +221,22 @@ entry!(kernel_not_looked_at, |lent| {
 entry!(rates_not_looked_at, |lent| {
     let list = lent.decoded().and_then(|events| {
         lent.limits(&events)?;
-        let n = Kernel::read(lent.kernel).ok_or(1_u64)?.n();
-        lent.folded(n, events, Reading::Right)
+        let kernel = Kernel::read(lent.kernel).ok_or(1_u64)?;
+        if !kernel.volumes_pass() {
+            return Err(1);
+        }
+        lent.folded(kernel.n(), events, Reading::Right)
+    });
+    hand_out(list, lent)
+});
+entry!(volumes_not_looked_at, |lent| {
+    let list = lent.decoded().and_then(|events| {
+        lent.limits(&events)?;
+        let kernel = Kernel::read(lent.kernel).ok_or(1_u64)?;
+        if !kernel.finite() {
+            return Err(2);
+        }
+        lent.folded(kernel.n(), events, Reading::Right)
     });
     hand_out(list, lent)
 });
@@ -478,6 +487,10 @@ pub const FAULTY: &[(&str, Normalize)] = &[
     (
         "rates that are not finite are not looked at",
         rates_not_looked_at,
+    ),
+    (
+        "volumes that do not pass are not looked at",
+        volumes_not_looked_at,
     ),
     ("every target is there", every_target_there),
     ("16 ahead of a later event's 40", fits_behind_the_fold),

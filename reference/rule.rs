@@ -67,7 +67,8 @@ pub struct Kernel {
 }
 
 impl Kernel {
-    /// None where the cells are no kernel (1).
+    /// None where the cells are no kernel (1): too few, or a count or a depot
+    /// that is none.
     pub fn read(cells: &[f64]) -> Option<Kernel> {
         if cells.len() < KERNEL {
             return None;
@@ -90,7 +91,28 @@ impl Kernel {
         self.volume_count + self.depot
     }
 
-    /// Whether every rate of the n by n part is finite (else 2).
+    /// The kernel in the cells, or the number that each entry but `state_count`
+    /// refuses them with: 1 where they are no kernel or a volume in use is not
+    /// finite or not above 0, then 2 by a rate.
+    pub fn sound(cells: &[f64]) -> Result<Kernel, u64> {
+        let kernel = Kernel::read(cells).ok_or(1_u64)?;
+        if !kernel.volumes_pass() {
+            return Err(1);
+        }
+        if !kernel.finite() {
+            return Err(2);
+        }
+        Ok(kernel)
+    }
+
+    /// Whether every volume in use is finite and above 0.
+    pub fn volumes_pass(&self) -> bool {
+        self.volumes[..self.volume_count]
+            .iter()
+            .all(|v| v.is_finite() && *v > 0.0)
+    }
+
+    /// Whether every rate of the n by n part is finite.
     pub fn finite(&self) -> bool {
         let n = self.n();
         self.rates[..n]

@@ -245,10 +245,7 @@ impl Run {
 
     /// A patient for the Rust, or the number ahead of the preparation.
     fn patient(&self) -> Result<Patient, u64> {
-        let kernel = Kernel::read(&self.cells).ok_or(1_u64)?;
-        if !kernel.finite() {
-            return Err(2);
-        }
+        let kernel = Kernel::sound(&self.cells)?;
         let plain;
         let (rust, forged) = match &self.rust {
             Some(rust) => (rust, None),

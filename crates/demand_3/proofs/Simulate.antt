@@ -13,7 +13,7 @@ use lib.Ieee.{Float}
 use Rattle.binary64.proofs.Sorted.{All}
 use Rattle.binary64.specs.Lists.{amountsPass, all}
 use Rattle.refusal.specs.Result as R
-use Rattle.linear_pk.specs.LinearPk.{sound, counted, ratesFinite, stateCount}
+use Rattle.linear_pk.specs.LinearPk.{sound, volumesPass, ratesFinite, stateCount}
 use Rattle.linear_pk.specs.declared.kernel.LinearPk.{LinearPk}
 use Rattle.protocol.specs.declared.Event.{Event}
 use Rattle.protocol.specs.declared.Window.{Window}
@@ -48,7 +48,7 @@ above-first (none ∷ os) h = above-first os (h .1)
 above-first (some m ∷ os) h = h .0
 
 above-own : (k : LinearPk) → Above (ownNumber (sound k))
-above-own k = on (counted k)
+above-own k = on (volumesPass k)
   where
     rates : (b : Bool) → Above (ownNumber (R.unless b 2 k))
     rates true = tt
@@ -82,9 +82,9 @@ not-zero h e = absurd (no h e)
     no : {m : ℕ} → 0 < m → m ≡ 0 → ⊥
     no h e = omega arith
 
--- ---- a kernel whose own test refuses nothing is one that `new` can have made
+-- ---- a kernel whose own test gives no number passes it
 own-sound : (k : LinearPk) → ownNumber (sound k) ≡ none → sound k ≡ R.done k
-own-sound k = on (counted k)
+own-sound k = on (volumesPass k)
   where
     some-none : {A : Type 0} {m : ℕ} → some m ≡ none → A
     some-none q = absurd (no q)

@@ -12,7 +12,7 @@ use Rattle.prepared_run.specs.KernelRun.{propagatorOf, EveryKernelRun}
 use Rattle.cycle.specs.declared.SteadyStateTolerance.{SteadyStateTolerance}
 use Rattle.cycle.specs.ClosedCycle.{TimesFit, ClosedCycle}
 
--- the closed cycles of every kernel that `new` can have made
+-- the closed cycles of every kernel that passes its own test
 abbrev pub EveryKernelCycle : Type 0
 EveryKernelCycle = (k : LinearPk) → sound k ≡ done k → (w : Window) (ss : List Float) (es : List Event) (tol : SteadyStateTolerance) → TimesFit w es
     → ClosedCycle (propagatorOf k) (stateCount k) w ss es tol

@@ -55,7 +55,7 @@ pub record Contract (c : Call) (r : SteadyReply) (exit : Slices) : Type 0 where
   pub residual : exit .residual ≡ answerAtExit (λ s. s .residuals) (entryOf c) (c .lent .residual)
 
 -- ---- what is given
--- within the limits, a kernel that `new` can have made, a cell for each state in both slices
+-- within the limits, a kernel that passes its own test, a cell for each state in both slices
 pub record Passed (c : Call) : Type 0 where
   pub count : c .count ≤ mostCycleEvents
   pub samples : length (c .samples) ≤ mostSamples

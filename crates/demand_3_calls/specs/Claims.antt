@@ -20,7 +20,7 @@ pub record Simulated (c : S.Call) (r : RunReply) (exit : S.Slices) : Type 0 wher
 
 -- of a call of `periodic_steady_state`
 pub record Steady (c : P.Call) (r : SteadyReply) (exit : P.Slices) : Type 0 where
-  -- within the limits, of a kernel that `new` can have made, with room for the answer
+  -- within the limits, of a kernel that passes its own test, with room for the answer
   pub replied : P.Passed c → P.Replied c r exit
   -- at every number above 0 the slices are as they were
   pub unchanged : 0 < steadyReply r .number → P.AtRefusal c r exit (steadyReply r .number) (steadyReply r .time)

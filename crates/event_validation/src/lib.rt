@@ -6,9 +6,9 @@ ghost use mathlib.Core.Path.{_≡_};
 ghost use Prim.Native.Nat.{_≤_, _<_};
 ghost use mathlib.Core.List.{[]};
 ghost use Rattle.binary64.specs.Lists.{any};
-ghost use Rattle.protocol.specs.Prepare.{within as withinOf, sameReset, valuesPass, eventPasses, eventsPass};
+ghost use Rattle.protocol.specs.Prepare.{within as withinOf, valuesPass, eventPasses, eventsPass};
 ghost use Rattle.events.specs.Packed.{eventAt, packed};
-ghost use Rattle.event_validation.specs.Seen.{seen};
+ghost use Rattle.event_validation.specs.Seen.{seen, repeated};
 
 // Finite and in the window, ends included.
 pub fn within(window: Window, time: f64) -> bool
@@ -17,46 +17,33 @@ pub fn within(window: Window, time: f64) -> bool
     binary64::is_finite(time) & ((window.start <= time) & (time <= window.end))
 }
 
-// Whether the event is a reset with this time and order.
-fn same_reset(time: f64, order: u16, event: Event) -> bool
-    ensures { λ r. ⌜ r ≡ sameReset time order event ⌝ }
+// Whether both are resets, of one time and one order.
+fn same_reset(reset: Event, event: Event) -> bool
+    ensures { λ r. ⌜ r ≡ repeated reset event ⌝ }
 {
-    match event {
-        Event::Bolus {
-            time: _,
-            target: _,
-            amount: _,
-        } => false,
-        Event::Infusion {
-            time: _,
-            target: _,
-            amount: _,
-            duration: _,
-        } => false,
-        Event::Reset {
-            time: t,
-            target: _,
-            value: _,
-            order: o,
-            stops: _,
-        } => (t == time) & (o == order),
+    match reset {
+        Event::Bolus { .. } => false,
+        Event::Infusion { .. } => false,
+        Event::Reset { time, order, .. } => match event {
+            Event::Bolus { .. } => false,
+            Event::Infusion { .. } => false,
+            Event::Reset {
+                time: t,
+                order: o,
+                ..
+            } => (t == time) & (o == order),
+        },
     }
 }
 
-// Whether one of the first i events is a reset with this time and order.
-fn repeats(
-    reals: &[[f64; 3]; EVENTS],
-    words: &[[usize; 4]; EVENTS],
-    i: usize,
-    time: f64,
-    order: u16,
-) -> bool
+// Whether one of the first i events is a reset with the time and order of this one.
+fn repeats(reals: &[[f64; 3]; EVENTS], words: &[[usize; 4]; EVENTS], i: usize, reset: Event) -> bool
     requires { ⌜ i ≤ 192 ⌝ }
-    ensures { λ r. ⌜ r ≡ any (sameReset time order) (seen (now (reals .entry)) (now (words .entry)) i) ⌝ }
+    ensures { λ r. ⌜ r ≡ any (repeated reset) (seen (now (reals .entry)) (now (words .entry)) i) ⌝ }
 {
     let mut found = false;
     for k in 0..i {
-        found = same_reset(time, order, events::event_at(reals, words, k)) | found;
+        found = same_reset(reset, events::event_at(reals, words, k)) | found;
     }
     found
 }
@@ -90,13 +77,9 @@ fn values_pass(
                         & ((time + duration <= window.end)
                             & binary64::is_finite(amount / duration))))
         }
-        Event::Reset {
-            time,
-            target: _,
-            value,
-            order,
-            stops: _,
-        } => { binary64::is_finite(value) & !repeats(reals, words, i, time, order) }
+        Event::Reset { value, .. } => {
+            binary64::is_finite(value) & !repeats(reals, words, i, event)
+        }
     }
 }
 

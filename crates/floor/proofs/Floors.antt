@@ -1,12 +1,13 @@
 -- The floor of a finite value whose sign is clear: clearing the fraction's bits in its pattern gives it. Assumes nothing.
 use mathlib.Core.Path.{_≡_, refl, sym, ap, ap₂, _∙_, subst}
 use Prim.Native.Nat.{ℕ, zero, suc, _+_, _-_, _*_, _/_, _%_, _^_, _≤_, _<_}
-use native.Mathlib.Nat.{le-of-eq, le-of-lt, le-trans, le-antisymm, lt-of-lt-of-le, lt-of-le-of-lt, lt-of-not-le, lt-irrefl, le-of-suc-le-suc, le-add-left, le-add-right, mul-comm, mul-assoc, mul-right-comm, mul-one, zero-lt-suc, lt-suc-self, mul-le-mul-right, mul-le-mul-left, mul-lt-mul-of-pos-right, mul-div-cancel, div-one, div-mul-le-self, div-div-eq-div-mul, div-eq-of-lt, le-div-iff-mul-le, div-lt-iff-lt-mul, sub-add-cancel, suc-mul, add-sub-cancel-left, mul-add-div-right, add-mul, zero-add, mod-eq-of-lt}
+use native.Mathlib.Nat.{le-of-eq, le-of-lt, le-trans, le-antisymm, lt-of-lt-of-le, lt-of-le-of-lt, lt-of-not-le, lt-irrefl, le-of-suc-le-suc, le-add-left, le-add-right, mul-comm, mul-assoc, mul-right-comm, mul-one, zero-lt-suc, lt-suc-self, mul-le-mul-right, mul-le-mul-left, mul-lt-mul-of-pos-right, mul-div-cancel, div-one, div-mul-le-self, div-div-eq-div-mul, div-eq-of-lt, le-div-iff-mul-le, div-lt-iff-lt-mul, sub-add-cancel, suc-mul, add-sub-cancel-left, mul-add-div-right, add-mul, zero-add, add-zero, add-comm, one-mul, zero-mul, mul-mod-left}
 use native.Mathlib.Omega.{arith}
 use mathlib.Core.Bool.{Bool, true, false, not, cond}
 use lib.IntN.{ℤ, pos, negsuc}
 use lib.Dec.{T, leb, leb→le, nleb→lt, lit≤}
-use lib.Pow.{pow-add, pow-pos, pow-mono, shl-lt}
+use lib.Pow.{pow-add, pow-pos, pow-mono, shl-lt, shl-shr, shr-mod, mod-pow-add, ones-lt, ones-split, high-ones, low as digits-low}
+use lib.Bits.{bitAnd, and-mask, and-high}
 use lib.Arith.{digits-div}
 use lib.Ieee.{Float, nan, inf, fin, Format, binary32, binary64, prec, emax, low, up, down, size, round, ofInt, fits, isNan, hid, ones, top, toBits, ofBits, nanBits}
 use lib.Ieee.Digits.{size-lt, size-le, size-reaches}
@@ -263,22 +264,55 @@ plain f P h (fin true m e) p l = absurd (high f (toBits f (fin true m e)) (le-tr
     below = le-trans (mul-le-mul-right (hid f) (le-of-lt (lt-suc-self (ones f)))) (le-of-eq (mul-comm (suc (ones f)) (hid f)))
 plain f P h (fin false m e) p l = h m e (p .0)
 
+-- ---- the masks
+-- all j + k digits set, shifted by k: a mask that clears the k lowest digits
+mask-clears : (j k b : ℕ) → b < 2 ^ (j + k) → bitAnd b ((2 ^ (j + k) - 1) * 2 ^ k % 2 ^ (j + k)) ≡ b / 2 ^ k * 2 ^ k
+mask-clears j k b h = ap (bitAnd b) mask ∙ and-high b j k ∙ ap (λ (x : ℕ). x * 2 ^ k) (shr-mod j k h)
+  where
+    n : ℕ
+    n = 2 ^ (j + k) - 1
+
+    ones : n % 2 ^ j ≡ 2 ^ j - 1
+    ones = ap (λ (i : ℕ). (2 ^ i - 1) % 2 ^ j) (add-comm j k) ∙ ap (λ (x : ℕ). x % 2 ^ j) (ones-split k j) ∙ digits-low (2 ^ k - 1) j (ones-lt j)
+
+    mask : n * 2 ^ k % 2 ^ (j + k) ≡ 2 ^ (j + k) - 2 ^ k
+    mask = mod-pow-add (n * 2 ^ k) j k ∙ ap₂ (λ (x y : ℕ). x % 2 ^ j * 2 ^ k + y) (shl-shr n k) (mul-mod-left n (2 ^ k)) ∙ add-zero (n % 2 ^ j * 2 ^ k) ∙ ap (λ (x : ℕ). x * 2 ^ k) ones ∙ sym (high-ones j k)
+
+-- the highest of k + 1 digits
+highest : (b k : ℕ) → bitAnd b (2 ^ (1 + k) - 2 ^ k) ≡ b / 2 ^ k % 2 * 2 ^ k
+highest b k = and-high b 1 k
+
+highest-clear : (b k : ℕ) → b < 2 ^ (1 + k) → bitAnd b (2 ^ (1 + k) - 2 ^ k) ≡ 0 → b < 2 ^ k
+highest-clear b k h e = lt-of-not-le (λ (g : 2 ^ k ≤ b). lt-irrefl 0 (lt-of-lt-of-le (pow-pos k) (le-trans (le-trans (le-of-eq (sym (one-mul (2 ^ k)))) (kept g)) (le-of-eq gone))))
+  where
+    kept : 2 ^ k ≤ b → 1 * 2 ^ k ≤ b / 2 ^ k * 2 ^ k
+    kept g = mul-le-mul-right (2 ^ k) (le-div-iff-mul-le (pow-pos k) .1 (le-trans (le-of-eq (one-mul (2 ^ k))) g))
+
+    gone : b / 2 ^ k * 2 ^ k ≡ 0
+    gone = ap (λ (x : ℕ). x * 2 ^ k) (sym (shr-mod 1 k h)) ∙ sym (highest b k) ∙ e
+
+highest-set : (b k : ℕ) → (bitAnd b (2 ^ (1 + k) - 2 ^ k) ≡ 0 → ⊥) → 2 ^ k ≤ b
+highest-set b k h = le-of-suc-le-suc (lt-of-not-le (λ (g : suc b ≤ 2 ^ k). h (highest b k ∙ ap (λ (x : ℕ). x % 2 * 2 ^ k) (div-eq-of-lt g) ∙ zero-mul (2 ^ k))))
+
 -- ---- at `f64`, as code has it
+-- the bit of the sign
+abbrev pub sign64 : Float → ℕ
+sign64 x = bitAnd (toBits binary64 x) 0x8000_0000_0000_0000
+
+-- the exponent's field
 abbrev pub field64 : Float → ℕ
-field64 x = toBits binary64 x / 2 ^ 52
+field64 x = bitAnd (toBits binary64 x / 2 ^ 52) 0x7ff
 
-pub floor64-whole : (x : Float) → T (fits binary64 x) → 1075 ≤ field64 x → x ≡ floorOf x
+whole64 : (x : Float) → T (fits binary64 x) → 1075 ≤ toBits binary64 x / 2 ^ 52 → x ≡ floorOf x
 unfolding floorOf cut
-floor64-whole nan F h = refl
-floor64-whole (inf s) F h = refl
-floor64-whole (fin true m e) F h = refl
-floor64-whole (fin false m e) F h = sym (cut-whole binary64 m e F h)
+whole64 nan F h = refl
+whole64 (inf s) F h = refl
+whole64 (fin true m e) F h = refl
+whole64 (fin false m e) F h = sym (cut-whole binary64 m e F h)
 
-pub floor64-small : (x : Float) → Good binary64 x → field64 x < 1023 → plusZero ≡ floorOf x
-unfolding floorOf
-floor64-small x p h =
-    plain binary64 (λ (x : Float). field64 x < 1023 → plusZero ≡ floorOf x)
-    (λ m e F l. ap (λ (n : ℕ). ofInt binary64 (pos n)) (sym (whole-part binary64 m e F ∙ div-eq-of-lt (below-one binary64 m e F l)))) x p (lt-of-lt-of-le h (lit≤ tt)) h
+-- a value whose sign is set is handed back
+pub floor64-signed : (x : Float) → T (fits binary64 x) → (sign64 x ≡ 0 → ⊥) → x ≡ floorOf x
+floor64-signed x F h = whole64 x F (le-div-iff-mul-le (pow-pos 52) .1 (le-trans (lit≤ tt) (highest-set (toBits binary64 x) 63 h)))
 
 -- the floor is the whole part, exactly
 pub floor-value : (m : ℕ) (e : ℤ) → T (fits binary64 (fin false m e)) → HasValue (floorOf (fin false m e)) false (m * up e / down e) 1
@@ -291,20 +325,47 @@ has-value nan s a c v = absurd v
 has-value (inf t) s a c v = absurd v
 has-value (fin t m e) s a c v = tt
 
--- down and up again, in 64 bits
-module _ (x : Float) (p : Good binary64 x) (h : field64 x < 1075) (l : 1023 ≤ field64 x) where
-  pub floor64-shift : ofBits binary64 (toBits binary64 x / 2 ^ (1075 - field64 x) * 2 ^ (1075 - field64 x) % 2 ^ 64) ≡ floorOf x
-  unfolding floorOf cut
-  floor64-shift =
-      let b = toBits binary64 x in
-      let s = 1075 - field64 x in
-      ap (ofBits binary64) (mod-eq-of-lt (lt-of-le-of-lt (div-mul-le-self b (2 ^ s)) (toBits-lt binary64 x (p .0))))
-      ∙ plain binary64 (λ (x : Float). field64 x < 1075 → 1023 ≤ field64 x → ofBits binary64 (toBits binary64 x / 2 ^ (1075 - field64 x) * 2 ^ (1075 - field64 x)) ≡ floorOf x)
-      (λ m e F h l. cut-clear binary64 m e F l (1075 - field64 (fin false m e)) (sub-add-cancel (le-of-lt h))) x p (lt-of-lt-of-le h (lit≤ tt)) h l
+-- where the sign is clear
+module _ (x : Float) (p : Good binary64 x) (c : sign64 x ≡ 0) where
+  -- the field is the pattern's, with no sign above it
+  field-alone : field64 x ≡ toBits binary64 x / 2 ^ 52
+  field-alone = and-mask (toBits binary64 x / 2 ^ 52) 11 ∙ shr-mod 11 52 (highest-clear (toBits binary64 x) 63 (toBits-lt binary64 x (p .0)) c)
 
-  pub floor64-real : T (not (nanBits binary64 (toBits binary64 x / 2 ^ (1075 - field64 x) * 2 ^ (1075 - field64 x) % 2 ^ 64)))
-  floor64-real =
-      let b = toBits binary64 x in
-      let s = 1075 - field64 x in
-      subst (λ (t : Bool). T (not t)) (sym (nanBits-is binary64 (b / 2 ^ s * 2 ^ s % 2 ^ 64) ∙ ap isNan floor64-shift))
-      (plain binary64 (λ (x : Float). T (not (isNan (floorOf x)))) (λ m e F. has-value (floorOf (fin false m e)) false (m * up e / down e) 1 (floor-value m e F)) x p (lt-of-lt-of-le h (lit≤ tt)))
+  pub floor64-whole : 1075 ≤ field64 x → x ≡ floorOf x
+  floor64-whole h = whole64 x (p .0) (subst (λ (n : ℕ). 1075 ≤ n) field-alone h)
+
+  pub floor64-small : field64 x < 1023 → plusZero ≡ floorOf x
+  unfolding floorOf
+  floor64-small h =
+      let l = subst (λ (n : ℕ). n < 1023) field-alone h in
+      plain binary64 (λ (x : Float). toBits binary64 x / 2 ^ 52 < 1023 → plusZero ≡ floorOf x)
+      (λ m e F l. ap (λ (n : ℕ). ofInt binary64 (pos n)) (sym (whole-part binary64 m e F ∙ div-eq-of-lt (below-one binary64 m e F l)))) x p (lt-of-lt-of-le l (lit≤ tt)) l
+
+  -- the bits from the fraction's on
+  module _ (h : field64 x < 1075) (l : 1023 ≤ field64 x) where
+    abbrev kept : ℕ
+    kept = bitAnd (toBits binary64 x) (0xffff_ffff_ffff_ffff * 2 ^ (1075 - field64 x) % 2 ^ 64)
+
+    bits-kept : kept ≡ toBits binary64 x / 2 ^ (1075 - field64 x) * 2 ^ (1075 - field64 x)
+    bits-kept =
+        let k = 1075 - field64 x in
+        subst (λ (w : ℕ). toBits binary64 x < 2 ^ w → bitAnd (toBits binary64 x) ((2 ^ w - 1) * 2 ^ k % 2 ^ w) ≡ toBits binary64 x / 2 ^ k * 2 ^ k)
+        (sub-add-cancel (few (field64 x) l)) (mask-clears (64 - k) k (toBits binary64 x)) (toBits-lt binary64 x (p .0))
+      where
+        few : (e : ℕ) → 1023 ≤ e → 1075 - e ≤ 64
+        few e l = omega arith
+
+    below : toBits binary64 x / 2 ^ 52 < 1075
+    below = subst (λ (n : ℕ). n < 1075) field-alone h
+
+    pub floor64-cut : ofBits binary64 kept ≡ floorOf x
+    unfolding floorOf cut
+    floor64-cut =
+        ap (ofBits binary64) (bits-kept ∙ ap (λ (e : ℕ). toBits binary64 x / 2 ^ (1075 - e) * 2 ^ (1075 - e)) field-alone)
+        ∙ plain binary64 (λ (x : Float). toBits binary64 x / 2 ^ 52 < 1075 → 1023 ≤ toBits binary64 x / 2 ^ 52 → ofBits binary64 (toBits binary64 x / 2 ^ (1075 - toBits binary64 x / 2 ^ 52) * 2 ^ (1075 - toBits binary64 x / 2 ^ 52)) ≡ floorOf x)
+        (λ m e F h l. cut-clear binary64 m e F l (1075 - toBits binary64 (fin false m e) / 2 ^ 52) (sub-add-cancel (le-of-lt h))) x p (lt-of-lt-of-le below (lit≤ tt)) below (subst (λ (n : ℕ). 1023 ≤ n) field-alone l)
+
+    pub floor64-real : T (not (nanBits binary64 kept))
+    floor64-real =
+        subst (λ (t : Bool). T (not t)) (sym (nanBits-is binary64 kept ∙ ap isNan floor64-cut))
+        (plain binary64 (λ (x : Float). T (not (isNan (floorOf x)))) (λ m e F. has-value (floorOf (fin false m e)) false (m * up e / down e) 1 (floor-value m e F)) x p (lt-of-lt-of-le below (lit≤ tt)))

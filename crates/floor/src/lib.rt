@@ -3,8 +3,8 @@ ghost use mathlib.Core.Path.{_≡_};
 ghost use Rattle.binary64.specs.Doubles.{floorOf};
 
 // The largest whole number that is not above x, where x is finite and its sign is clear; else x.
-// e is the exponent's field with the sign above it: from 1075 on x is whole, infinite or has its sign set, and below 1023 x is below 1.
-// Between, the lowest 1075 - e bits are the fraction's.
+// e is the exponent's field: from 1075 on x is whole or infinite, and below 1023 x is below 1.
+// Between, the lowest 1075 - e bits are the fraction's, and the mask clears them.
 pub fn floor(x: f64) -> f64
     ensures { λ r. ⌜ r ≡ floorOf x ⌝ }
 {
@@ -12,7 +12,10 @@ pub fn floor(x: f64) -> f64
         return x;
     }
     let bits: u64 = f64::to_bits(x);
-    let e: u64 = bits >> 52;
+    if (bits & 0x8000_0000_0000_0000) != 0 {
+        return x;
+    }
+    let e: u64 = (bits >> 52) & 0x7ff;
     if e >= 1075 {
         return x;
     }
@@ -20,5 +23,6 @@ pub fn floor(x: f64) -> f64
         return 0.0;
     }
     let k: u64 = 1075 - e;
-    f64::from_bits((bits >> k) << k)
+    let whole: u64 = 0xffff_ffff_ffff_ffff << k;
+    f64::from_bits(bits & whole)
 }

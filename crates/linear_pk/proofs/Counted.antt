@@ -1,14 +1,17 @@
--- What a kernel's count says of its states.
+-- What a kernel's count says of its states and its volumes.
 use mathlib.Core.Path.{_≡_, refl, sym, _∙_}
 use mathlib.Core.Bool.{Bool, true, false}
 use Prim.Native.Nat.{ℕ, _+_, _<_, _≤_}
 use native.Mathlib.Omega.{arith}
 use borrow.Author.Tests.{ltb-true, leb-true}
 use lib.Dec.{ltb, leb}
+use lib.ListN.{take}
+use Rattle.binary64.specs.Doubles.{positive}
+use Rattle.binary64.specs.Lists.{all}
 use Rattle.linear_pk.specs.declared.kernel.LinearPk.{LinearPk}
 use Rattle.refusal.specs.Result.{refused, done, andThen, unless}
 pub use Rattle.concentration.proofs.Counts.{and-first, and-second, amounts-count}
-use Rattle.linear_pk.specs.LinearPk.{counted, stateCount, place, mostCompartments, sound, ratesFinite}
+use Rattle.linear_pk.specs.LinearPk.{counted, volumesPass, stateCount, place, mostCompartments, sound, ratesFinite}
 
 module _ (k : LinearPk) where
   pub some-volume : counted k ≡ true → 0 < k .compartments
@@ -35,9 +38,13 @@ module _ (k : LinearPk) where
   pub some-states : (stateCount k ≡ 0 → ⊥) → counted k ≡ true
   some-states = decided (counted k) refl .1
 
+  -- with a count, the volumes in use decide
+  pub volumes-by : {b : Bool} → counted k ≡ true → b ≡ all positive (take (k .compartments) (k .volumes)) → volumesPass k ≡ b
+  volumes-by h e = rw (h, ← e)
+
 -- a sound kernel has its count
 pub sound-counted : (k : LinearPk) {j : LinearPk} → sound k ≡ done j → counted k ≡ true
-sound-counted k {j} h = on (counted k) h
+sound-counted k {j} h = and-first (counted k) _ (on (volumesPass k) h)
   where
     on : (b : Bool) → andThen (unless b 1 k) (λ k. unless (ratesFinite k) 2 k) ≡ done j → b ≡ true
     on true e = refl

@@ -4,12 +4,12 @@ use mathlib.Core.Bool.{Bool, false, _&&_, cond}
 use mathlib.Core.List.{List}
 use Prim.Native.Nat.{ℕ, _+_, _-_, _*_}
 use lib.Dec.{eqb, ltb, leb}
-use lib.ListN.{length, replicate}
+use lib.ListN.{length, replicate, take}
 use lib.Ieee.{Float}
 use lib.Ieee.Scale.{finite}
-use Rattle.binary64.specs.Doubles.{plusZero, nonnegative}
+use Rattle.binary64.specs.Doubles.{plusZero, nonnegative, positive}
 use Rattle.matrix.specs.Matrix.{tabulate, allTo}
-use Rattle.binary64.specs.Lists.{amountsPass}
+use Rattle.binary64.specs.Lists.{all, amountsPass}
 use Rattle.refusal.specs.Result.{Result, andThen, unless}
 use Rattle.matrix.specs.Exponential.{Scheme}
 use Rattle.interval.specs.Interval.{states, entry, interval}
@@ -47,16 +47,20 @@ noKernel = record { compartments = 0; depot = false; volumes = replicate mostCom
 abbrev pub counted : LinearPk → Bool
 counted k = ltb 0 (k .compartments) && leb (k .compartments) mostCompartments
 
--- how many states; 0 where this is no kernel
+-- how many states; 0 where there are not 1 to 3 volumes
 unfoldable pub stateCount : LinearPk → ℕ
 stateCount k = cond (counted k) (k .compartments + place (k .depot)) 0
 
 unfoldable pub ratesFinite : LinearPk → Bool
 ratesFinite k = allTo (λ i. allTo (λ j. finite (entry (k .rates) i j)) (stateCount k)) (stateCount k)
 
--- 1 for a count that `new` does not give, 2 for a rate that is not finite
+-- 1 to 3 volumes, and each of them finite and above 0
+abbrev pub volumesPass : LinearPk → Bool
+volumesPass k = counted k && all positive (take (k .compartments) (k .volumes))
+
+-- a kernel's own test: 1 by its volumes, 2 by a rate that is not finite
 abbrev pub sound : LinearPk → Result LinearPk
-sound k = andThen (unless (counted k) 1 k) (λ k. unless (ratesFinite k) 2 k)
+sound k = andThen (unless (volumesPass k) 1 k) (λ k. unless (ratesFinite k) 2 k)
 
 -- ---- `new`
 -- 1 to 3 volumes, one exchange fewer, and the values

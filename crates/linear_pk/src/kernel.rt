@@ -4,10 +4,13 @@ use parameters::Absorption;
 use propagator::CELLS;
 use refusal::Refusal;
 use refusal::Reply;
+use value_tests::Test;
 ghost use mathlib.Core.Path.{_≡_};
 ghost use Prim.Native.Nat.{_+_, _≤_};
-ghost use lib.ListN.{length};
-ghost use Rattle.linear_pk.specs.LinearPk.{stateCount, ratesFinite, sound, kernelOf, noKernel, new as newOf};
+ghost use lib.ListN.{length, take};
+ghost use Rattle.binary64.specs.Doubles.{positive};
+ghost use Rattle.binary64.specs.Lists.{all};
+ghost use Rattle.linear_pk.specs.LinearPk.{stateCount, volumesPass, ratesFinite, sound, kernelOf, noKernel, new as newOf};
 ghost use Rattle.refusal.specs.Result.{valueOr};
 ghost use Rattle.refusal.specs.Numbers.{resultOf};
 
@@ -20,7 +23,7 @@ pub struct LinearPk {
 }
 
 impl LinearPk {
-    // How many states there are; 0 where this is no kernel.
+    // How many states there are; 0 where there are not 1 to 3 volumes.
     pub fn state_count(self) -> usize
         ensures { λ r. ⌜ (r ≡ stateCount self) × (r ≤ 4) ⌝ }
     {
@@ -42,12 +45,30 @@ fn rates_finite(kernel: LinearPk) -> bool
     mammillary::rates_finite(rates, kernel.state_count())
 }
 
-// Whether `new` can have made this kernel: 1 for its count, 2 for a rate that is not finite.
+// Whether the first count volumes are finite and above 0.
+fn all_positive(volumes: [f64; VOLUMES], count: usize) -> bool
+    requires { ⌜ count ≤ 3 ⌝ }
+    ensures { λ r. ⌜ r ≡ all positive (take count volumes) ⌝ }
+{
+    value_tests::all_pass(Test::Positive, &volumes[..count])
+}
+
+// Whether there are 1 to 3 volumes, each finite and above 0.
+fn volumes_pass(kernel: LinearPk) -> bool
+    ensures { λ r. ⌜ r ≡ volumesPass kernel ⌝ }
+{
+    if kernel.state_count() == 0 {
+        return false;
+    }
+    let volumes = kernel.volumes;
+    all_positive(volumes, kernel.compartments)
+}
+
+// A kernel's own test: 1 by its volumes, 2 by a rate that is not finite.
 pub fn check(kernel: LinearPk) -> Reply
     ensures { λ r. ⌜ resultOf r kernel ≡ sound kernel ⌝ }
 {
-    let n = kernel.state_count();
-    if n == 0 {
+    if !volumes_pass(kernel) {
         return Reply::Refused(Refusal::Parameters);
     }
     if !rates_finite(kernel) {

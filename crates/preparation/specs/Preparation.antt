@@ -22,7 +22,7 @@ abbrev pub ownNumber : Result LinearPk → Option ℕ
 ownNumber (refused c) = some c
 ownNumber (done k) = none
 
--- `prepare_simulation` of the first `count` events: 5, a kernel that is none, the preparation
+-- `prepare_simulation` of the first `count` events: 5, the kernel's own test, the preparation
 unfoldable pub prepareEntry : LinearPk → Window → List Float → List Event → ℕ → Option ℕ
 prepareEntry k w ss es count =
     firstOf

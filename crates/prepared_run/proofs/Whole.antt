@@ -24,7 +24,7 @@ use Rattle.refusal.specs.declared.Refusal.{Refusal}
 use Rattle.refusal.specs.declared.Reply.{Reply as Answer}
 use Rattle.refusal.specs.declared.Reply.the-variants.{Done, Refused}
 use Rattle.linear_pk.specs.declared.kernel.LinearPk.{LinearPk}
-use Rattle.linear_pk.specs.LinearPk.{stateCount, counted, ratesFinite, sound}
+use Rattle.linear_pk.specs.LinearPk.{stateCount, volumesPass, ratesFinite, sound}
 use Rattle.protocol.specs.Execute.{Row, Outcome, go, stop, run, begin, runOf}
 use Rattle.protocol.specs.Entry.{ahead, Reply, replyOf, sideCode, laid, atExit, timesAtExit, sidesAtExit, valuesAtExit}
 use Rattle.protocol.specs.PlainRun.{Prepared, PlainRun, rowsLeft}
@@ -46,7 +46,7 @@ use Rattle.prepared_run.proofs.KernelRuns.{kernel-run}
 
 -- ---- what holds where no test ahead refuses
 pub own-none : (k : LinearPk) → ownNumber (sound k) ≡ none → sound k ≡ done k
-own-none k = on (counted k) (λ (j : LinearPk). ratesFinite j)
+own-none k = on (volumesPass k) (λ (j : LinearPk). ratesFinite j)
   where
     some-none : {A : Type 0} {c : ℕ} → some c ≡ none → A
     some-none q = absurd (no q)

@@ -1,4 +1,4 @@
--- Demand 3's claim about a plain run, at the kernel and 01's scheme: for every kernel that `new` can have made. Ahead of it the conditions of 20, 21 and 22, over every scheme.
+-- Demand 3's claim about a plain run, at the kernel and 01's scheme: for every kernel that passes its own test. Ahead of it the conditions of 20, 21 and 22, over every scheme.
 use mathlib.Core.Path.{_≡_}
 use mathlib.Core.Bool.{Bool, not, _&&_}
 use mathlib.Core.List.{List}

@@ -22,7 +22,7 @@ use Rattle.matrix.specs.Exponential.{Scheme, scheme, halvings, countOf, normTo,
 use Rattle.matrix.proofs.Filled.{tabulate-length}
 use Rattle.interval.specs.Interval.{propagator, amountTo, applied, over, interval}
 use Rattle.linear_pk.specs.declared.kernel.LinearPk.{LinearPk}
-use Rattle.linear_pk.specs.LinearPk.{counted, ratesFinite, sound, stateCount, advance}
+use Rattle.linear_pk.specs.LinearPk.{volumesPass, ratesFinite, sound, stateCount, advance}
 use Rattle.linear_pk.proofs.Counted.{and-first, amounts-count}
 use Rattle.rows.specs.Told.{kernelAdvance}
 
@@ -52,7 +52,7 @@ sure-halvings limit (suc d) n x = on (lt limit x) (sure-halvings limit d (suc n)
 
 module _ (s : Scheme) (k : LinearPk) where
   sure-sound : Sure Any (sound k)
-  sure-sound = sure-then Any Any (unless (counted k) 1 k) (λ k. unless (ratesFinite k) 2 k) (sure-unless Any (counted k) 1 k (omega arith) (λ _. tt)) (λ j _. sure-unless Any (ratesFinite j) 2 j (omega arith) (λ _. tt))
+  sure-sound = sure-then Any Any (unless (volumesPass k) 1 k) (λ k. unless (ratesFinite k) 2 k) (sure-unless Any (volumesPass k) 1 k (omega arith) (λ _. tt)) (λ j _. sure-unless Any (ratesFinite j) 2 j (omega arith) (λ _. tt))
 
   sure-count : (x : Float) → Sure Any (countOf (s .threshold) (s .most) x)
   unfolding countOf

@@ -14,7 +14,7 @@ use Rattle.binary64.specs.Doubles.{plusZero}
 use Rattle.binary64.specs.Lists.{all, gather, amountsPass}
 use Rattle.matrix.specs.Matrix.{tabulate}
 use Rattle.refusal.specs.Result.{Result, refused, done, andThen, unless}
-use Rattle.linear_pk.specs.LinearPk.{sound, stateCount, counted, ratesFinite}
+use Rattle.linear_pk.specs.LinearPk.{sound, stateCount, volumesPass, ratesFinite}
 use Rattle.linear_pk.specs.declared.kernel.LinearPk.{LinearPk}
 use Rattle.protocol.specs.declared.Event.{Event}
 use Rattle.protocol.specs.declared.Window.{Window}
@@ -70,7 +70,7 @@ unless-positive true c h = tt
 unless-positive false c h = h
 
 own-positive : (k : LinearPk) → Positive (ownNumber (sound k))
-own-positive k = on (counted k) (λ (j : LinearPk). ratesFinite j)
+own-positive k = on (volumesPass k) (λ (j : LinearPk). ratesFinite j)
   where
     rates : (b : Bool) → Positive (ownNumber (unless b 2 k))
     rates true = tt

@@ -1,29 +1,26 @@
 -- The tests ahead of a run, as the entry makes them one after the other.
 use mathlib.Core.Path.{_≡_, refl, sym, ap, ap₂, _∙_, subst}
-use mathlib.Core.Bool.{Bool, true, false, cond, _&&_}
+use mathlib.Core.Bool.{Bool, true, false, _&&_}
 use mathlib.Core.List.{List, [], _∷_}
 use mathlib.Core.Option.{Option, some, none}
-use Prim.Native.Nat.{ℕ, _≤_, _<_}
+use Prim.Native.Nat.{ℕ, _≤_}
 use native.Mathlib.Nat.{le-trans}
 use native.Mathlib.Omega.{arith}
 use lib.Dec.{T, leb, eqb, eqb→eq, leb→le}
-use lib.ListN.{length, getD, take, length-take}
-use lib.Seq.{take-length}
-use lib.Ieee.{Float, nan}
-use borrow.Author.Tests.{lt-ltb, le-leb}
-use Rattle.binary64.specs.Doubles.{plusZero, nonnegative}
+use lib.ListN.{length, take, length-take}
+use lib.Ieee.{Float}
+use borrow.Author.Tests.{le-leb}
+use Rattle.binary64.specs.Doubles.{nonnegative}
 use Rattle.binary64.specs.Lists.{all, amountsPass}
 use Rattle.refusal.specs.Numbers.{refusalNumber, resultOf}
 use Rattle.refusal.specs.declared.Reply.{Reply}
 use Rattle.refusal.specs.declared.Reply.the-variants as Y
 use Rattle.refusal.specs.declared.Refusal.{Refusal}
 use Rattle.refusal.specs.Result as R
-use Rattle.matrix.specs.Matrix.{cell, tabulate}
-use Rattle.matrix.proofs.Filled.{tabulate-at, tabulate-length}
 use Rattle.linear_pk.specs.declared.kernel.LinearPk.{LinearPk}
 use Rattle.linear_pk.specs.declared.bind.BoundLinearPk.{BoundLinearPk}
-use Rattle.linear_pk.specs.LinearPk.{paddedCell, padded, stateCount, counted, ratesFinite, sound, bind}
-use Rattle.events.proofs.Packing.{tabulate-take}
+use Rattle.linear_pk.proofs.Made.{padded-front}
+use Rattle.linear_pk.specs.LinearPk.{padded, stateCount, volumesPass, ratesFinite, sound, bind}
 use Rattle.protocol.specs.declared.Event.{Event}
 use Rattle.protocol.specs.declared.Window.{Window}
 use Rattle.protocol.specs.First.{unless, firstOf}
@@ -54,14 +51,7 @@ refuses r rows n times sides values e = (
 
 -- ---- the amounts of a bound kernel
 pub bound-front : (n : ℕ) (x : List Float) → n ≤ 4 → length x ≡ n → take n (padded 4 x) ≡ x
-unfolding padded
-bound-front n x h e =
-    sym (tabulate-take (λ (k : ℕ). getD x k nan) nan n (tabulate 4 (paddedCell x)) (omega (arith, tabulate-length (paddedCell x) 4)) (λ (k : ℕ) (l : k < n). held k l))
-    ∙ tabulate-take (λ (k : ℕ). getD x k nan) nan n x (omega arith) (λ (k : ℕ) (l : k < n). refl)
-    ∙ ap (λ (j : ℕ). take j x) (sym e) ∙ take-length x
-  where
-    held : (k : ℕ) → k < n → getD x k nan ≡ getD (tabulate 4 (paddedCell x)) k nan
-    held k l = sym (tabulate-at (paddedCell x) nan 4 k (omega arith) ∙ ap (λ (b : Bool). cond b (cell x k) plusZero) (lt-ltb k (length x) (omega arith)))
+bound-front n x h e = ap (λ (j : ℕ). take j (padded 4 x)) (sym e) ∙ padded-front 4 x (omega arith)
 
 -- ---- test by test
 take-most : {A : Type 0} (n : ℕ) (xs : List A) → length (take n xs) ≤ n
@@ -79,7 +69,7 @@ boundOf k x = record { kernel = k; initial = padded 4 x }
 -- what `bind` refuses: the kernel's own number, or 3
 bind-refuses : (k : LinearPk) (x : List Float) (os : List (Option ℕ)) {c : ℕ} → bind k x ≡ R.refused c → firstOf (ownNumber (sound k) ∷ unless (amountsPass (stateCount k) x) 3 ∷ os) ≡ some c
 unfolding bind
-bind-refuses k x os = on (counted k)
+bind-refuses k x os = on (volumesPass k)
   where
     same : {j c : ℕ} → _≡_ {A = R.Result BoundLinearPk} (R.refused j) (R.refused c) → j ≡ c
     same q = cc
@@ -106,7 +96,7 @@ pub record Taken (k : LinearPk) (x : List Float) (b : BoundLinearPk) : Type 0 wh
 
 pub bind-takes : (k : LinearPk) (x : List Float) {b : BoundLinearPk} → R.done b ≡ bind k x → Taken k x b
 unfolding bind
-bind-takes k x = on (counted k) refl
+bind-takes k x = on (volumesPass k) refl
   where
     initial-of : {b d : BoundLinearPk} → R.done b ≡ R.done d → b .initial ≡ d .initial
     initial-of q = cc
@@ -115,12 +105,12 @@ bind-takes k x = on (counted k) refl
     amounts true o e q = record { own = o; amounts = e; initial = initial-of q }
     amounts false o e q = not-done q
 
-    rates : (s : Bool) {b : BoundLinearPk} → counted k ≡ true → ratesFinite k ≡ s
+    rates : (s : Bool) {b : BoundLinearPk} → volumesPass k ≡ true → ratesFinite k ≡ s
         → R.done b ≡ R.andThen (R.unless s 2 k) (λ (j : LinearPk). R.unless (amountsPass (stateCount j) x) 3 (boundOf j x)) → Taken k x b
     rates true g e q = amounts (amountsPass (stateCount k) x) (ap (λ (a : Bool). ownNumber (R.andThen (R.unless a 1 k) (λ (j : LinearPk). R.unless (ratesFinite j) 2 j))) g ∙ ap (λ (a : Bool). ownNumber (R.unless a 2 k)) e) refl q
     rates false g e q = not-done q
 
-    on : (s : Bool) {b : BoundLinearPk} → counted k ≡ s
+    on : (s : Bool) {b : BoundLinearPk} → volumesPass k ≡ s
         → R.done b ≡ R.andThen (R.andThen (R.unless s 1 k) (λ (j : LinearPk). R.unless (ratesFinite j) 2 j)) (λ (j : LinearPk). R.unless (amountsPass (stateCount j) x) 3 (boundOf j x)) → Taken k x b
     on true g q = rates (ratesFinite k) g refl q
     on false g q = not-done q

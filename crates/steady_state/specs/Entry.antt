@@ -15,7 +15,7 @@ use Rattle.cycle.specs.Fold.{mostCycleEvents, fold}
 pub use Rattle.cycle_list.specs.Answers.{eventIn, Answer, told}
 unfoldable pub use Rattle.cycle_list.specs.Answers.{filled, answerOf}
 
--- 5, a kernel that is none, the fold of the first `count` events
+-- 5, the kernel's own test, the fold of the first `count` events
 unfoldable pub foldEntry : LinearPk → Window → List Float → List Event → ℕ → Result (List Event)
 unfolding fold
 foldEntry k w ss es count =

@@ -6,16 +6,15 @@ use Prim.Native.Nat.{_≤_, _-_}
 use native.Mathlib.Nat.{le-antisymm}
 use native.Mathlib.Numerals.{add-one}
 use Rattle.binary64.specs.Lists.{any}
-use Rattle.protocol.specs.Prepare.{sameReset}
-use Rattle.event_validation.specs.Seen.{seen}
+use Rattle.event_validation.specs.Seen.{seen, repeated}
 use Rattle.event_validation.proofs.repeats.Statement.{statement}
 use Rattle.event_validation.proofs.repeats.Tie as tie
 
 abbrev Inv-loop : tie.InvT-loop
-Inv-loop reals words i time order found₀ k₀ found k = (k ≤ i) × (found ≡ any (sameReset time order) (seen reals words k))
+Inv-loop reals words i reset found₀ k₀ found k = (k ≤ i) × (found ≡ any (repeated reset) (seen reals words k))
 
 abbrev μ-loop : tie.MeasureT-loop
-μ-loop reals words i time order found₀ k₀ found k = i - k
+μ-loop reals words i reset found₀ k₀ found k = i - k
 
 loop-holds : tie.Need-loop-holds Inv-loop μ-loop
 unfolding seen
