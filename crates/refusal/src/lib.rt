@@ -3,7 +3,7 @@ ghost use mathlib.Core.Path.{_≡_};
 ghost use Rattle.refusal.specs.Numbers.{refusalNumber, replyNumber};
 
 pub enum Refusal {
-    // Parameters outside those that `new` takes, or a kernel that it did not make.
+    // Parameters outside those that `new` takes, or a kernel with such a count or volume.
     Parameters,
     RateNotFinite,
     // A wrong count, or a value that is not finite or below 0.
