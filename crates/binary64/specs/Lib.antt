@@ -1,3 +1,4 @@
 pub mod Doubles
 pub mod Lists
 pub mod Sort
+pub mod Tests

@@ -5,12 +5,12 @@ ghost use mathlib.Core.Path.{_≡_};
 ghost use mathlib.Core.List.{[]};
 ghost use lib.ListN.{length};
 ghost use Rattle.refusal.specs.Result.{number, valueOr};
-ghost use Rattle.kernel_cells.specs.Cells.{kernelAt};
-ghost use Rattle.simulate_words.specs.Run.{windowOf};
+ghost use Rattle.capi_kernel.specs.Cells.{kernelAt};
+ghost use Rattle.capi_run.specs.Run.{windowOf};
 ghost use Rattle.cycle.specs.Closed.{steadyReplyOf, answerAtExit};
-ghost use Rattle.cycle_words.specs.Words.{foldWords, cellsOf};
-ghost use Rattle.steady_reply.specs.Entry.{steadyRoom};
-ghost use Rattle.steady_words.specs.Words.{steadyWords};
+ghost use Rattle.capi_fold.specs.Words.{foldWords, cellsOf};
+ghost use Rattle.periodic_acceptance.specs.Entry.{steadyRoom};
+ghost use Rattle.capi_steady.specs.Words.{steadyWords};
 
 #[no_mangle]
 pub extern "C" fn linear_pk_normalize_periodic_cycle(
@@ -40,8 +40,8 @@ pub extern "C" fn linear_pk_normalize_periodic_cycle(
         events: event_budget,
         outputs: output_budget,
     };
-    let told = cycle_words::fold_words(
-        kernel_reading::kernel_at(kernel),
+    let told = capi_fold::fold_words(
+        capi_kernel_cells::kernel_at(kernel),
         window,
         events,
         samples,
@@ -88,8 +88,8 @@ pub extern "C" fn linear_pk_periodic_steady_state(
         outputs: output_budget,
     };
     let tolerance = SteadyStateTolerance { absolute, relative };
-    let told = steady_words::steady_words(
-        kernel_reading::kernel_at(kernel),
+    let told = capi_steady::steady_words(
+        capi_kernel_cells::kernel_at(kernel),
         window,
         events,
         samples,

@@ -9,7 +9,7 @@ ghost use lib.ListN.{length};
 ghost use Rattle.refusal.specs.Result.{number, laid};
 ghost use Rattle.matrix.specs.Exponential.{scheme};
 ghost use Rattle.linear_pk.specs.LinearPk.{stateCount, advance, concentrations};
-ghost use Rattle.kernel_cells.specs.Cells.{absorptionOf, kernelAt, newCells, bindCells};
+ghost use Rattle.capi_kernel.specs.Cells.{absorptionOf, kernelAt, newCells, bindCells};
 
 #[no_mangle]
 pub extern "C" fn linear_pk_new(
@@ -23,14 +23,14 @@ pub extern "C" fn linear_pk_new(
     ensures { λ r. ⌜ r ≡ number (newCells clearance (now (volumes .entry)) (now (exchange .entry)) (absorptionOf depot absorption) (length (now (kernel .entry)))) ⌝ }
     ensures { λ r. ⌜ now (kernel .exit) ≡ laid (newCells clearance (now (volumes .entry)) (now (exchange .entry)) (absorptionOf depot absorption) (length (now (kernel .entry)))) (now (kernel .entry)) ⌝ }
 {
-    kernel_cells::new(clearance, volumes, exchange, depot, absorption, kernel)
+    capi_kernel::new(clearance, volumes, exchange, depot, absorption, kernel)
 }
 
 #[no_mangle]
 pub extern "C" fn linear_pk_state_count(kernel: &[f64]) -> u64
     ensures { λ r. ⌜ r ≡ stateCount (kernelAt (now (kernel .entry))) ⌝ }
 {
-    kernel_reading::kernel_at(kernel).state_count() as u64
+    capi_kernel_cells::kernel_at(kernel).state_count() as u64
 }
 
 #[no_mangle]
@@ -44,7 +44,7 @@ pub extern "C" fn linear_pk_advance(
     ensures { λ r. ⌜ r ≡ number (advance scheme (kernelAt (now (kernel .entry))) (now (amounts .entry)) (now (rates .entry)) duration (length (now (result .entry)))) ⌝ }
     ensures { λ r. ⌜ now (result .exit) ≡ laid (advance scheme (kernelAt (now (kernel .entry))) (now (amounts .entry)) (now (rates .entry)) duration (length (now (result .entry)))) (now (result .entry)) ⌝ }
 {
-    refusal::number(kernel_reading::kernel_at(kernel).advance(amounts, rates, duration, result))
+    refusal::number(capi_kernel_cells::kernel_at(kernel).advance(amounts, rates, duration, result))
 }
 
 #[no_mangle]
@@ -56,7 +56,7 @@ pub extern "C" fn linear_pk_concentrations(
     ensures { λ r. ⌜ r ≡ number (concentrations (kernelAt (now (kernel .entry))) (now (amounts .entry)) (length (now (result .entry)))) ⌝ }
     ensures { λ r. ⌜ now (result .exit) ≡ laid (concentrations (kernelAt (now (kernel .entry))) (now (amounts .entry)) (length (now (result .entry)))) (now (result .entry)) ⌝ }
 {
-    refusal::number(kernel_reading::kernel_at(kernel).concentrations(amounts, result))
+    refusal::number(capi_kernel_cells::kernel_at(kernel).concentrations(amounts, result))
 }
 
 #[no_mangle]
@@ -64,5 +64,5 @@ pub extern "C" fn linear_pk_bind(kernel: &[f64], initial: &[f64], bound: &mut [f
     ensures { λ r. ⌜ r ≡ number (bindCells (kernelAt (now (kernel .entry))) (now (initial .entry)) (length (now (bound .entry)))) ⌝ }
     ensures { λ r. ⌜ now (bound .exit) ≡ laid (bindCells (kernelAt (now (kernel .entry))) (now (initial .entry)) (length (now (bound .entry)))) (now (bound .entry)) ⌝ }
 {
-    kernel_cells::bind(kernel, initial, bound)
+    capi_kernel::bind(kernel, initial, bound)
 }

@@ -3,12 +3,12 @@ use protocol::Window;
 ghost use mathlib.Core.Path.{_≡_};
 ghost use lib.ListN.{length};
 ghost use Rattle.linear_pk.specs.LinearPk.{stateCount};
-ghost use Rattle.layout.specs.Layout.{eventsOf};
+ghost use Rattle.events_layout.specs.Layout.{eventsOf};
 ghost use Rattle.protocol.specs.Prepare.{reckoned};
 ghost use Rattle.protocol.specs.Entry.{replyOf, timesAtExit, sidesAtExit, valuesAtExit};
-ghost use Rattle.run_report.specs.Replies.{room};
-ghost use Rattle.kernel_cells.specs.Cells.{kernelAt};
-ghost use Rattle.simulate_words.specs.Run.{windowOf, simulateWords};
+ghost use Rattle.simulation_report.specs.Replies.{room};
+ghost use Rattle.capi_kernel.specs.Cells.{kernelAt};
+ghost use Rattle.capi_run.specs.Run.{windowOf, simulateWords};
 
 #[no_mangle]
 pub extern "C" fn linear_pk_simulate(
@@ -48,8 +48,8 @@ pub extern "C" fn linear_pk_simulate(
         events: event_budget,
         outputs: output_budget,
     };
-    let told = simulate_words::simulate_words(
-        kernel_reading::kernel_at(kernel),
+    let told = capi_run::simulate_words(
+        capi_kernel_cells::kernel_at(kernel),
         amounts,
         window,
         events,

@@ -1,7 +1,7 @@
 // The C interface of a sheet.
 ghost use mathlib.Core.Path.{_≡_};
 ghost use Rattle.printout.specs.Cells.{printed, printedLength};
-ghost use Rattle.rig.specs.Rig.{printoutOfBytes, numberInto};
+ghost use Rattle.rig_run_printout.specs.Rig.{printoutOfBytes, numberInto};
 
 #[no_mangle]
 pub extern "C" fn rig_run_sheet(sheet: &[u8], out: &mut [u8], length: &mut usize) -> u64
@@ -9,7 +9,7 @@ pub extern "C" fn rig_run_sheet(sheet: &[u8], out: &mut [u8], length: &mut usize
     ensures { λ r. ⌜ now (length .exit) ≡ printedLength (printoutOfBytes (now (sheet .entry)) .text) (now (out .entry)) ⌝ }
     ensures { λ r. ⌜ now (out .exit) ≡ printed (printoutOfBytes (now (sheet .entry)) .text) (now (out .entry)) ⌝ }
 {
-    let printout = rig::run_sheet(sheet, out);
+    let printout = rig_run_printout::run_sheet(sheet, out);
     *length = printout.length;
     let reply = printout.reply;
     refusal::number(reply)

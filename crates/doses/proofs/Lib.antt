@@ -1,2 +1,4 @@
+pub mod Inserts
+pub mod ResetOrder
 pub mod Doses
 pub mod Chains

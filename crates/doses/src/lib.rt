@@ -1,4 +1,6 @@
 // The doses of a boundary: the resets by order, the boluses in list order, each checked.
+pub mod resets;
+
 use events::EVENTS;
 use rows::Progress;
 ghost use mathlib.Core.List.{map, _++_};
@@ -6,8 +8,8 @@ ghost use Prim.Native.Nat.{_≤_};
 ghost use Rattle.protocol.specs.Events.{resets, boluses};
 ghost use Rattle.protocol.specs.Schedule.{apply};
 ghost use Rattle.events.specs.Packed.{packed};
-ghost use Rattle.reset_order.specs.Places.{Places, listed};
-ghost use Rattle.dose_steps.specs.Takes.{Takes};
+ghost use Rattle.doses.specs.Places.{Places, listed};
+ghost use Rattle.doses_steps.specs.Takes.{Takes};
 
 // The boluses at t in list order.
 fn apply_boluses(
@@ -24,14 +26,14 @@ fn apply_boluses(
     let mut p = start;
     let mut i = 0usize;
     while i < count {
-        let q = dose_steps::apply_bolus(events::event_at(reals, words, i), n, t, p);
+        let q = doses_steps::apply_bolus(events::event_at(reals, words, i), n, t, p);
         if q.stopped() {
             return q;
         }
         p = q;
         i += 1;
     }
-    dose_steps::resumed(p)
+    doses_steps::resumed(p)
 }
 
 // The events at the first m places of the list.
@@ -50,14 +52,14 @@ fn apply_listed(
     let mut p = start;
     let mut k = 0usize;
     while k < m {
-        let q = dose_steps::apply_one(events::event_at(reals, words, list[k]), n, t, p);
+        let q = doses_steps::apply_one(events::event_at(reals, words, list[k]), n, t, p);
         if q.stopped() {
             return q;
         }
         p = q;
         k += 1;
     }
-    dose_steps::resumed(p)
+    doses_steps::resumed(p)
 }
 
 // The resets at t by order.
@@ -73,7 +75,7 @@ fn apply_resets(
     ensures { λ r. ⌜ Takes n start (map (apply t) (resets t (packed (now (reals .entry)) (now (words .entry)) count))) r ⌝ }
 {
     let mut list = [0usize; EVENTS];
-    let m = reset_order::list_resets(reals, words, count, t, &mut list);
+    let m = resets::list_resets(reals, words, count, t, &mut list);
     apply_listed(reals, words, &list, m, n, t, start)
 }
 

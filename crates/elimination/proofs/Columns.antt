@@ -13,9 +13,9 @@ use Rattle.matrix.specs.Matrix.{Matrix, at, table, tabulate}
 use Rattle.matrix.specs.Arrays.{lead}
 use Rattle.refusal.specs.Result.{refused, done, unless}
 use Rattle.cycle.specs.Elimination.{System, leastPivot, pivotOf, pivotPasses, swapped, exchanged, reducedCell, reducedRight, reduced, eliminateColumn, eliminateTo, solveTo, solve}
-use Rattle.system_entries.specs.Systems.{held}
+use Rattle.elimination_system.specs.Systems.{held}
 use Rattle.matrix.proofs.Rows.{lead-at}
-use Rattle.reduction.proofs.Exchanges.{swapped-lead, swapped-part}
+use Rattle.elimination_steps.proofs.Exchanges.{swapped-lead, swapped-part}
 
 module _ (n : ℕ) (least : Float) (s : System) where
   stays-refused : (k d : ℕ) {c : ℕ} → eliminateTo n least s k ≡ refused c → eliminateTo n least s (d + k) ≡ refused c

@@ -1,12 +1,12 @@
 // Gaussian elimination with partial pivoting and back substitution, in arrays of which the leading n by n part is in use.
+use elimination_steps::exchanged;
+use elimination_steps::right;
+use elimination_steps::table;
+use elimination_steps::table::Cells;
+use elimination_system::entries::at;
 use matrix::STATES;
-use reduction::exchanged;
-use reduction::right;
-use reduction::table;
-use reduction::table::Cells;
 use refusal::Refusal;
 use refusal::Reply;
-use system_entries::at;
 ghost use mathlib.Core.Path.{_≡_};
 ghost use Prim.Native.Nat.{_≤_};
 ghost use lib.ListN.{take};
@@ -34,12 +34,12 @@ pub fn solve(n: usize, matrix: [[f64; STATES]; STATES], right: [f64; STATES]) ->
     requires { ⌜ n ≤ 4 ⌝ }
     ensures { λ r. ⌜ resultOf (r .reply) (take n (r .amounts)) ≡ solveOf n (record { matrix = lead n matrix; right = take n right }) ⌝ }
 {
-    let least = pivot::least(&matrix, n);
+    let least = elimination_system::pivot::least(&matrix, n);
     let mut a = matrix;
     let mut b = right;
     for k in 0..n {
-        let p = pivot::row(&a, n, k);
-        if !pivot::passes(least, at(&a, p, k)) {
+        let p = elimination_system::pivot::row(&a, n, k);
+        if !elimination_system::pivot::passes(least, at(&a, p, k)) {
             return Solution {
                 reply: Reply::Refused(Refusal::Pivot),
                 amounts: [0.0f64; STATES],
@@ -53,6 +53,6 @@ pub fn solve(n: usize, matrix: [[f64; STATES]; STATES], right: [f64; STATES]) ->
     }
     Solution {
         reply: Reply::Done,
-        amounts: substitution::solved(&a, b, n),
+        amounts: elimination_steps::substitution::solved(&a, b, n),
     }
 }

@@ -9,7 +9,7 @@ use native.Mathlib.Omega.{arith}
 use lib.ListN.{take, replicate}
 use Rattle.matrix.specs.Matrix.{tabulate, tabulateFrom}
 use Rattle.binary64.specs.Lists.{any, gather}
-pub use Rattle.sorted_times.proofs.Either.{or-regroup, or-none, any-append}
+pub use Rattle.events_times.proofs.Either.{or-regroup, or-none, any-append}
 
 module _ {A : Type 0} (f : ℕ → A) (count : ℕ) where
   -- the elements from place i on

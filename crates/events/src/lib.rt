@@ -2,7 +2,7 @@
 use protocol::Event;
 ghost use mathlib.Core.Path.{_≡_};
 ghost use Prim.Native.Nat.{_<_};
-ghost use Rattle.protocol.specs.Events.{time as timeOf, target as targetOf};
+ghost use Rattle.protocol.specs.Events.{time as timeOf, target as targetOf, noEvent};
 ghost use Rattle.events.specs.Packed.{eventAt};
 
 // The most events of a run's list.
@@ -89,5 +89,16 @@ pub fn target_of(event: Event) -> usize
             order: _,
             stops: _,
         } => target,
+    }
+}
+
+// What stands past the last event.
+pub fn no_event() -> Event
+    ensures { λ r. ⌜ r ≡ noEvent ⌝ }
+{
+    Event::Bolus {
+        time: 0.0,
+        target: 0,
+        amount: 0.0,
     }
 }

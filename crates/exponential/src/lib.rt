@@ -1,7 +1,7 @@
 // The exponential of a block by scaling and squaring of its Taylor series.
 // Matrices are arrays of arrays, of which the leading m by m part is in use.
+use exponential_norm::Halvings;
 use matrix::BLOCK;
-use norm::Halvings;
 ghost use mathlib.Core.Path.{_≡_};
 ghost use Prim.Native.Nat.{_≤_};
 ghost use lib.ListN.{length};
@@ -13,8 +13,8 @@ fn taylor(a: [[f64; BLOCK]; BLOCK], m: usize, count: usize) -> [[f64; BLOCK]; BL
     requires { ⌜ (m ≤ 8) × (length a ≡ 8) ⌝ }
     ensures { λ r. ⌜ Holds m r (taylorOf scheme m count (lead m a)) ⌝ }
 {
-    squaring::squared(
-        taylor_series::series(squaring::halved(a, m, count), m, 20),
+    exponential_series::squared(
+        exponential_series::series(exponential_series::halved(a, m, count), m, 20),
         m,
         count,
     )
@@ -37,13 +37,13 @@ pub fn exponential(
     requires { ⌜ (m ≤ 8) × (length a ≡ 8) ⌝ }
     ensures { λ r. ⌜ exponentialResult r (lead m (now (propagator .exit))) ≡ exponentialOf scheme m (lead m a) ⌝ }
 {
-    let count = norm::count_halvings(norm::norm(&a, m), 0.5, 60);
+    let count = exponential_norm::count_halvings(exponential_norm::norm(&a, m), 0.5, 60);
     match count {
         Halvings::NormNotFinite => Outcome::NormNotFinite,
         Halvings::TooMany => Outcome::TooManyHalvings,
         Halvings::Count(c) => {
             let p = taylor(a, m, c);
-            if !norm::all_finite(&p, m) {
+            if !exponential_norm::all_finite(&p, m) {
                 return Outcome::NotFinite;
             }
             *propagator = p;

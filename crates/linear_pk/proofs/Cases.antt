@@ -12,11 +12,11 @@ use Rattle.binary64.specs.Doubles.{nonnegative}
 use Rattle.binary64.specs.Lists.{amountsPass}
 use Rattle.refusal.specs.Result.{refused, done, andThen, unless}
 use Rattle.matrix.specs.Exponential.{Scheme}
-use Rattle.interval.specs.Interval.{states, interval}
-use Rattle.concentration.specs.Concentrations.{concentrations as concentrationsOf}
+use Rattle.linear_pk_interval.specs.Interval.{states, interval}
+use Rattle.linear_pk_values.specs.Concentrations.{concentrations as concentrationsOf}
 use Rattle.linear_pk.specs.LinearPk.{stateCount, sound, advance, concentrations, bind, passes, valuesPass, kernelOf, ratesFinite, new, padded, mostCompartments}
 use Rattle.linear_pk.specs.declared.kernel.LinearPk.{LinearPk}
-use Rattle.parameters.specs.declared.Absorption.{Absorption}
+use Rattle.linear_pk_values.specs.declared.Absorption.{Absorption}
 
 -- ---- `advance`
 module _ (s : Scheme) (k : LinearPk) (x r : List Float) (d : Float) where

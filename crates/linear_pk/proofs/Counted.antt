@@ -10,7 +10,7 @@ use Rattle.binary64.specs.Doubles.{positive}
 use Rattle.binary64.specs.Lists.{all}
 use Rattle.linear_pk.specs.declared.kernel.LinearPk.{LinearPk}
 use Rattle.refusal.specs.Result.{refused, done, andThen, unless}
-pub use Rattle.concentration.proofs.Counts.{and-first, and-second, amounts-count}
+pub use Rattle.linear_pk_values.proofs.Counts.{and-first, and-second, amounts-count}
 use Rattle.linear_pk.specs.LinearPk.{counted, volumesPass, stateCount, place, mostCompartments, sound, ratesFinite}
 
 module _ (k : LinearPk) where

@@ -13,7 +13,7 @@ use Rattle.binary64.specs.Doubles.{nonnegative, positive}
 use Rattle.binary64.specs.Lists.{all}
 use Rattle.refusal.specs.Result.{refused, done, andThen, unless}
 use Rattle.matrix.specs.Matrix.{tabulate, tabulateFrom}
-use Rattle.parameters.specs.declared.Absorption.{Absorption}
+use Rattle.linear_pk_values.specs.declared.Absorption.{Absorption}
 use Rattle.linear_pk.specs.declared.kernel.LinearPk.{LinearPk}
 use Rattle.linear_pk.specs.LinearPk.{volumesPass, ratesFinite, sound, kernelOf, passes, valuesPass, new, paddedCell, padded, mostCompartments}
 use Rattle.linear_pk.proofs.Counted.{and-first, and-second, volumes-by}

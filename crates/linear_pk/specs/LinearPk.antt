@@ -12,13 +12,13 @@ use Rattle.matrix.specs.Matrix.{tabulate, allTo}
 use Rattle.binary64.specs.Lists.{all, amountsPass}
 use Rattle.refusal.specs.Result.{Result, andThen, unless}
 use Rattle.matrix.specs.Exponential.{Scheme}
-use Rattle.interval.specs.Interval.{states, entry, interval}
-pub use Rattle.mammillary.specs.Rates.{place, centralRate, peripheralRate, paddedCell, paddedRate}
-unfoldable pub use Rattle.mammillary.specs.Rates.{diagonalTo, rateOf, padded}
-use Rattle.concentration.specs.Concentrations.{concentrations as concentrationsOf}
-use Rattle.parameters.specs.declared.Absorption.{Absorption}
-pub use Rattle.parameters.specs.Parameters.{depotOf, absorbed}
-unfoldable pub use Rattle.parameters.specs.Parameters.{valuesPass}
+use Rattle.linear_pk_interval.specs.Interval.{states, entry, interval}
+pub use Rattle.linear_pk_mammillary.specs.Rates.{place, centralRate, peripheralRate, paddedCell, paddedRate}
+unfoldable pub use Rattle.linear_pk_mammillary.specs.Rates.{diagonalTo, rateOf, padded}
+use Rattle.linear_pk_values.specs.Concentrations.{concentrations as concentrationsOf}
+use Rattle.linear_pk_values.specs.declared.Absorption.{Absorption}
+pub use Rattle.linear_pk_values.specs.Parameters.{depotOf, absorbed}
+unfoldable pub use Rattle.linear_pk_values.specs.Parameters.{valuesPass}
 use Rattle.linear_pk.specs.declared.kernel.LinearPk.{LinearPk}
 use Rattle.linear_pk.specs.declared.bind.BoundLinearPk.{BoundLinearPk}
 

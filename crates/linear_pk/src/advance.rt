@@ -21,15 +21,15 @@ impl LinearPk {
             Reply::Refused(refusal) => Reply::Refused(refusal),
             Reply::Done => {
                 let n = self.state_count();
-                if !(value_tests::amounts_pass(n, amounts)
-                    & (value_tests::amounts_pass(n, rates) & binary64::is_nonnegative(duration))) {
+                if !(binary64::amounts_pass(n, amounts)
+                    & (binary64::amounts_pass(n, rates) & binary64::is_nonnegative(duration))) {
                     return Reply::Refused(Refusal::Argument);
                 }
                 if result.len() < n {
                     return Reply::Refused(Refusal::ShortSlice);
                 }
                 let cells = self.rates;
-                interval::interval(cells, n, amounts, rates, duration, result)
+                linear_pk_interval::interval(cells, n, amounts, rates, duration, result)
             }
         }
     }

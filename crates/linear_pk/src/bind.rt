@@ -44,10 +44,10 @@ impl LinearPk {
             Reply::Refused(refusal) => not_bound(refusal),
             Reply::Done => {
                 let n = self.state_count();
-                if !value_tests::amounts_pass(n, initial) {
+                if !binary64::amounts_pass(n, initial) {
                     return not_bound(Refusal::Argument);
                 }
-                let list = parameters::padded_amounts(initial);
+                let list = linear_pk_values::padded_amounts(initial);
                 let bound = BoundLinearPk {
                     kernel: self,
                     initial: list,

@@ -20,7 +20,7 @@ impl LinearPk {
             Reply::Done => {
                 let n = self.state_count();
                 let volumes = self.volumes;
-                concentration::concentrations(
+                linear_pk_values::concentrations(
                     n,
                     self.compartments,
                     self.depot,

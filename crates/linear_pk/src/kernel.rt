@@ -1,10 +1,10 @@
 // The kernel: a matrix of rates, the volumes, and whether there is a depot.
-use mammillary::VOLUMES;
-use parameters::Absorption;
-use propagator::CELLS;
+use binary64::Test;
+use linear_pk_mammillary::VOLUMES;
+use linear_pk_propagator::CELLS;
+use linear_pk_values::Absorption;
 use refusal::Refusal;
 use refusal::Reply;
-use value_tests::Test;
 ghost use mathlib.Core.Path.{_≡_};
 ghost use Prim.Native.Nat.{_+_, _≤_};
 ghost use lib.ListN.{length, take};
@@ -42,7 +42,7 @@ fn rates_finite(kernel: LinearPk) -> bool
     ensures { λ r. ⌜ r ≡ ratesFinite kernel ⌝ }
 {
     let rates = kernel.rates;
-    mammillary::rates_finite(rates, kernel.state_count())
+    linear_pk_mammillary::rates_finite(rates, kernel.state_count())
 }
 
 // Whether the first count volumes are finite and above 0.
@@ -50,7 +50,7 @@ fn all_positive(volumes: [f64; VOLUMES], count: usize) -> bool
     requires { ⌜ count ≤ 3 ⌝ }
     ensures { λ r. ⌜ r ≡ all positive (take count volumes) ⌝ }
 {
-    value_tests::all_pass(Test::Positive, &volumes[..count])
+    binary64::all_pass(Test::Positive, &volumes[..count])
 }
 
 // Whether there are 1 to 3 volumes, each finite and above 0.
@@ -113,17 +113,17 @@ fn kernel_of(clearance: f64, volumes: &[f64], exchange: &[f64], absorption: Abso
     ensures { λ r. ⌜ r ≡ kernelOf clearance (now (volumes .entry)) (now (exchange .entry)) absorption ⌝ }
 {
     let count = volumes.len();
-    let depot = parameters::has_depot(absorption);
-    let n = count + mammillary::central(depot);
-    let cells = mammillary::rates(
+    let depot = linear_pk_values::has_depot(absorption);
+    let n = count + linear_pk_mammillary::central(depot);
+    let cells = linear_pk_mammillary::rates(
         clearance,
         volumes,
         exchange,
         depot,
-        parameters::absorbed(absorption),
+        linear_pk_values::absorbed(absorption),
         n,
     );
-    let list = mammillary::padded_volumes(volumes);
+    let list = linear_pk_mammillary::padded_volumes(volumes);
     LinearPk {
         compartments: count,
         depot,
@@ -148,7 +148,7 @@ impl LinearPk {
         if exchange.len() != count - 1 {
             return not_made(Refusal::Parameters);
         }
-        if !parameters::values_pass(clearance, volumes, exchange, absorption) {
+        if !linear_pk_values::values_pass(clearance, volumes, exchange, absorption) {
             return not_made(Refusal::Parameters);
         }
         let kernel = kernel_of(clearance, volumes, exchange, absorption);

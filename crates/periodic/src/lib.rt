@@ -2,12 +2,12 @@
 use cycle::SteadyStateTolerance;
 use events::EVENTS;
 use linear_pk::LinearPk;
+use periodic_acceptance::SteadyReply;
 use preparation::SAMPLES;
 use protocol::Event;
 use protocol::Window;
 use refusal::Refusal;
 use refusal::Reply;
-use steady_reply::SteadyReply;
 ghost use mathlib.Core.Path.{_≡_};
 ghost use mathlib.Core.Bool.{_&&_};
 ghost use Prim.Native.Nat.{_≤_};
@@ -15,10 +15,10 @@ ghost use lib.Dec.{leb};
 ghost use lib.ListN.{length};
 ghost use Rattle.linear_pk.specs.LinearPk.{stateCount};
 ghost use Rattle.events.specs.Packed.{packed};
-ghost use Rattle.prepared_run.specs.KernelRun.{propagatorOf};
+ghost use Rattle.simulation.specs.KernelRun.{propagatorOf};
 ghost use Rattle.cycle.specs.Closed.{closed as closedOf, steadyReplyOf, answerAtExit};
-ghost use Rattle.steady_reply.specs.Entry.{steadyRoom, steadyEntry, steadyReply};
-ghost use Rattle.steady_reply.specs.Replies.{Answers};
+ghost use Rattle.periodic_acceptance.specs.Entry.{steadyRoom, steadyEntry, steadyReply};
+ghost use Rattle.periodic_acceptance.specs.Replies.{Answers};
 
 // The most events of a cycle's list before it is folded.
 const CYCLE_EVENTS: usize = 64;
@@ -41,9 +41,9 @@ fn closed(
         (leb n (length (now (amounts .entry))) && leb n (length (now (residual .entry)))))
         r (now (amounts .entry)) (now (residual .entry)) (now (amounts .exit)) (now (residual .exit)) ⌝ }
 {
-    let mut folded_reals = cycle_cells::real_cells();
-    let mut folded_words = cycle_cells::word_cells();
-    let folding = cycle_preparation::prepare_periodic_steady_state(
+    let mut folded_reals = periodic_inputs::real_cells();
+    let mut folded_words = periodic_inputs::word_cells();
+    let folding = periodic_preparation::prepare_periodic_steady_state(
         n,
         window,
         samples,
@@ -56,10 +56,10 @@ fn closed(
     );
     let reply = folding.reply;
     match reply {
-        Reply::Refused(refusal) => steady_reply::refused(refusal),
+        Reply::Refused(refusal) => periodic_acceptance::refused(refusal),
         Reply::Done => {
             let places = folding.count;
-            prepared_cycle::execute_prepared_periodic_steady_state(
+            periodic_prepared::execute_prepared_periodic_steady_state(
                 kernel,
                 n,
                 window,
@@ -90,18 +90,18 @@ pub fn periodic_steady_state(
     ensures { λ r. ⌜ now (residual .exit) ≡ answerAtExit (λ s. s .residuals) (steadyEntry kernel window (now (samples .entry)) events count tolerance (steadyRoom kernel (length (now (amounts .entry))) (length (now (residual .entry))))) (now (residual .entry)) ⌝ }
 {
     if count > CYCLE_EVENTS {
-        return steady_reply::refused(Refusal::Limit);
+        return periodic_acceptance::refused(Refusal::Limit);
     }
     if samples.len() > SAMPLES {
-        return steady_reply::refused(Refusal::Limit);
+        return periodic_acceptance::refused(Refusal::Limit);
     }
     let sound = linear_pk::check(kernel);
     match sound {
-        Reply::Refused(refusal) => steady_reply::refused(refusal),
+        Reply::Refused(refusal) => periodic_acceptance::refused(refusal),
         Reply::Done => {
-            let mut reals = cycle_cells::real_cells();
-            let mut words = cycle_cells::word_cells();
-            packing::pack(events, count, &mut reals, &mut words);
+            let mut reals = periodic_inputs::real_cells();
+            let mut words = periodic_inputs::word_cells();
+            events_packing::pack(events, count, &mut reals, &mut words);
             let n = kernel.state_count();
             closed(
                 kernel,

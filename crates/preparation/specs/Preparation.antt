@@ -14,8 +14,8 @@ use Rattle.protocol.specs.Entry.{mostEvents, mostSamples}
 use Rattle.protocol.specs.Prepare.{prepare}
 use Rattle.protocol.specs.declared.Event.{Event}
 use Rattle.protocol.specs.declared.Window.{Window}
-pub use Rattle.window_validation.specs.Validation.{numberOf}
-unfoldable pub use Rattle.window_validation.specs.Validation.{validateOf}
+pub use Rattle.preparation_validation.specs.Validation.{numberOf}
+unfoldable pub use Rattle.preparation_validation.specs.Validation.{validateOf}
 
 -- the kernel's own number
 abbrev pub ownNumber : Result LinearPk → Option ℕ

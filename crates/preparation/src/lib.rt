@@ -1,4 +1,6 @@
 // `prepare_simulation`: 13, 10, 11, 12 event by event, 14.
+pub mod admission;
+
 use events::EVENTS;
 use linear_pk::LinearPk;
 use protocol::Event;
@@ -30,7 +32,7 @@ pub fn prepared(
     if count > window.events {
         return Reply::Refused(Refusal::EventBudget);
     }
-    let valid = window_validation::validate(n, window, samples, reals, words, count);
+    let valid = preparation_validation::validate(n, window, samples, reals, words, count);
     match valid {
         Reply::Refused(refusal) => Reply::Refused(refusal),
         Reply::Done => {
@@ -67,7 +69,7 @@ pub fn prepare_simulation(
             let mut reals = [real; EVENTS];
             let word = [0usize; 4];
             let mut words = [word; EVENTS];
-            packing::pack(events, count, &mut reals, &mut words);
+            events_packing::pack(events, count, &mut reals, &mut words);
             prepared(kernel.state_count(), window, samples, &reals, &words, count)
         }
     }

@@ -8,7 +8,7 @@ use lib.Dec.{eqb}
 use lib.ListN.{length, length-append}
 use lib.Ieee.{Float}
 use Rattle.printout.specs.Printout.{places, rowLines, headLine, orderedLine, rowsText, refusedText, runText, rowsLength, textLength}
-pub use Rattle.number_text.proofs.Counts.{decimal-length, double-length, places-most, places-end, places-last, places-more}
+pub use Rattle.printout_numbers.proofs.Counts.{decimal-length, double-length, places-most, places-end, places-last, places-more}
 pub use Rattle.printout_rows.proofs.Lengths.{rows-length, part-size}
 pub use Rattle.printout_lines.proofs.Lengths.{head-length, ordered-length, refused-text-length}
 

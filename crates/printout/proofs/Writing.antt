@@ -1,2 +1,2 @@
 -- Texts written one after the other: the laws of `number_text/proofs/Writing.antt`.
-pub use Rattle.number_text.proofs.Writing.{sets-append, wrote-both, wrote-none, sets-take, digits-length, digits-more, digits-step, digits-done}
+pub use Rattle.printout_numbers.proofs.Writing.{sets-append, wrote-both, wrote-none, sets-take, digits-length, digits-more, digits-step, digits-done}

@@ -4,7 +4,7 @@ use mathlib.Core.Bool.{cond}
 use mathlib.Core.List.{List, _++_}
 use lib.Dec.{leb}
 use lib.ListN.{length, drop}
-pub use Rattle.number_text.specs.Written.{Wrote}
+pub use Rattle.printout_numbers.specs.Written.{Wrote}
 
 -- how many bytes are written from the front on: the whole text, or none where it has no room
 abbrev pub printedLength : List ℕ → List ℕ → ℕ

@@ -1,2 +1,4 @@
 pub mod Printout
 pub mod Cells
+pub mod Printouts
+pub mod Replies

@@ -4,13 +4,13 @@ use mathlib.Core.Bool.{cond}
 use mathlib.Core.List.{List, _++_}
 use lib.Dec.{eqb}
 use lib.Ieee.{Float}
-unfoldable pub use Rattle.number_text.specs.Digits.{glyph, digits, places, decimal, hexadecimal, bitsOf, doubleText}
-unfoldable pub use Rattle.printout_row.specs.Row.{sideText, amountsText, rowLine}
-pub use Rattle.printout_row.specs.Row.{sideLength, rowLength}
+unfoldable pub use Rattle.printout_numbers.specs.Digits.{glyph, digits, places, decimal, hexadecimal, bitsOf, doubleText}
+unfoldable pub use Rattle.printout_rows.specs.Row.{sideText, amountsText, rowLine}
+pub use Rattle.printout_rows.specs.Row.{sideLength, rowLength}
 unfoldable pub use Rattle.printout_rows.specs.Rows.{rowLines, rowsLength}
 pub use Rattle.printout_rows.specs.Rows.{rowAt}
 unfoldable pub use Rattle.printout_lines.specs.Lines.{headLine, orderedLine, refusedText}
-unfoldable pub use Rattle.printout_length.specs.Length.{textLength}
+unfoldable pub use Rattle.printout_lines.specs.Length.{textLength}
 
 unfoldable pub rowsText : ℕ → ℕ → Float → List Float → List ℕ → List Float → List ℕ
 rowsText rows n ordered times sides values = headLine rows ++ rowLines n rows times sides values ++ orderedLine ordered

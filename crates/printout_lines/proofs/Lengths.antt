@@ -4,8 +4,8 @@ use Prim.Native.Nat.{ℕ, _+_}
 use native.Mathlib.Omega.{arith}
 use lib.ListN.{length, length-append}
 use lib.Ieee.{Float}
-use Rattle.number_text.specs.Digits.{places, decimal, doubleText}
-use Rattle.number_text.proofs.Counts.{decimal-length, double-length}
+use Rattle.printout_numbers.specs.Digits.{places, decimal, doubleText}
+use Rattle.printout_numbers.proofs.Counts.{decimal-length, double-length}
 use Rattle.printout_lines.specs.Lines.{headLine, orderedLine, refusedText}
 
 pub head-length : (rows : ℕ) → length (headLine rows) ≡ 6 + places 19 rows

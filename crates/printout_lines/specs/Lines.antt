@@ -2,7 +2,7 @@
 use Prim.Native.Nat.{ℕ}
 use mathlib.Core.List.{List, [], _∷_, _++_}
 use lib.Ieee.{Float}
-use Rattle.number_text.specs.Digits.{decimal, doubleText}
+use Rattle.printout_numbers.specs.Digits.{decimal, doubleText}
 
 -- "rows" and their number
 unfoldable pub headLine : ℕ → List ℕ

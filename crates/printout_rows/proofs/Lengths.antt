@@ -8,8 +8,8 @@ use native.Mathlib.Omega.{arith}
 use lib.ListN.{length, getD, take, drop, length-append, length-drop}
 use lib.Seq.{length-take-le}
 use lib.Ieee.{Float, nan}
-use Rattle.printout_row.specs.Row.{rowLength}
-use Rattle.printout_row.proofs.Lengths.{row-length}
+use Rattle.printout_rows.specs.Row.{rowLength}
+use Rattle.printout_rows.proofs.RowLengths.{row-length}
 use Rattle.printout_rows.specs.Rows.{rowAt, rowLines, rowsLength}
 
 module _ (n : ℕ) (times : List Float) (sides : List ℕ) (values : List Float) where

@@ -3,7 +3,7 @@ use Prim.Native.Nat.{ℕ, zero, suc, _+_, _*_}
 use mathlib.Core.List.{List, [], _++_}
 use lib.ListN.{take, drop, getD}
 use lib.Ieee.{Float, nan}
-use Rattle.printout_row.specs.Row.{rowLine, rowLength}
+use Rattle.printout_rows.specs.Row.{rowLine, rowLength}
 
 -- row k of n amounts, out of the three lists
 abbrev pub rowAt : ℕ → ℕ → List Float → List ℕ → List Float → List ℕ

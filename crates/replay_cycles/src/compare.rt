@@ -1,8 +1,8 @@
 // The comparison of a fold's reply and words with the stored ones.
 use crate::shape::Shape;
 use crate::shape::reply_at;
-use cycle_words::FoldedWords;
-use stored_answers::ROOM;
+use capi_fold::FoldedWords;
+use replay_answers::ROOM;
 ghost use Prim.Native.Nat.{_+_, _≤_};
 ghost use Rattle.replay_cycles.specs.Places.{Held};
 

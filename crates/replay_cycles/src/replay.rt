@@ -9,11 +9,11 @@ use crate::shape::EXCHANGE;
 use crate::shape::FIRST_EVENT;
 use crate::shape::Shape;
 use crate::shape::WINDOW;
-use cycle_words::FoldedWords;
+use capi_fold::FoldedWords;
 use linear_pk::LinearPk;
 use protocol::Window;
-use stored_answers::Outcome;
-use stored_answers::ROOM;
+use replay_answers::Outcome;
+use replay_answers::ROOM;
 ghost use Prim.Native.Nat.{_≤_};
 ghost use lib.ListN.{length};
 ghost use Rattle.replay_cycles.specs.Places.{Held};
@@ -29,21 +29,21 @@ fn fold(
 ) -> FoldedWords
     requires { ⌜ (18 ≤ end) × (end ≤ length (now words)) ⌝ }
 {
-    cycle_words::fold_words(kernel, window, &words[FIRST_EVENT..end], samples, pieces)
+    capi_fold::fold_words(kernel, window, &words[FIRST_EVENT..end], samples, pieces)
 }
 
 // The fold of a line's cycle.
 fn folded(words: &[u64; ROOM], shape: Shape, pieces: &mut [u64]) -> FoldedWords
     requires { ⌜ Held shape ⌝ }
 {
-    let made = stored_answers::made(words, CLEARANCE, EXCHANGE, DEPOT);
+    let made = replay_answers::made(words, CLEARANCE, EXCHANGE, DEPOT);
     let kernel = made.kernel;
     let at = shape::samples_at(shape.events);
-    let samples = stored_answers::doubles(words, at);
-    let s = stored_answers::count(words, at, &samples);
+    let samples = replay_answers::doubles(words, at);
+    let s = replay_answers::count(words, at, &samples);
     fold(
         kernel,
-        stored_answers::window(words, WINDOW),
+        replay_answers::window(words, WINDOW),
         words,
         at,
         &samples[..s],
@@ -68,10 +68,10 @@ fn compared(words: &[u64; ROOM], count: usize) -> Outcome {
 }
 
 pub fn replay(line: &[u8]) -> Outcome {
-    if stored_answers::is_comment(line) {
+    if replay_answers::is_comment(line) {
         return Outcome::Comment;
     }
     let mut words = [0u64; ROOM];
-    let count = stored_answers::numbers(line, &mut words);
+    let count = replay_answers::numbers(line, &mut words);
     compared(&words, count)
 }

@@ -1,11 +1,11 @@
 // One line: a call of the library, and the answer that it must give.
 use linear_pk::LinearPk;
 use linear_pk::Made;
-use stored_answers::Outcome;
-use stored_answers::ROOM;
-use stored_answers::count;
-use stored_answers::doubles;
-use stored_numbers::same;
+use replay_answers::Outcome;
+use replay_answers::ROOM;
+use replay_answers::count;
+use replay_answers::doubles;
+use replay_numbers::same;
 ghost use mathlib.Core.Path.{_≡_};
 ghost use Prim.Native.Nat.{_≤_};
 ghost use lib.ListN.{length};
@@ -53,7 +53,7 @@ fn in_range(words: &[u64; ROOM]) -> bool {
 
 // The kernel of a line's parameters, or the refusal.
 fn made(words: &[u64; ROOM]) -> Made {
-    stored_answers::made(words, CLEARANCE, EXCHANGE, DEPOT)
+    replay_answers::made(words, CLEARANCE, EXCHANGE, DEPOT)
 }
 
 // What the library answers: the reply's number, and the cells from the front.
@@ -127,7 +127,7 @@ fn by_advance(words: &[u64; ROOM]) -> Answer
     let rates = doubles(words, RATES);
     let a = count(words, AMOUNTS, &amounts);
     let r = count(words, RATES, &rates);
-    let duration = bit_patterns::of_bits(words[DURATION]);
+    let duration = binary64_bits::of_bits(words[DURATION]);
     let mut cells = prefilled();
     let count = count(words, RESULT, &cells);
     let reply = kernel.advance(&amounts[..a], &rates[..r], duration, &mut cells[..count]);
@@ -201,10 +201,10 @@ fn compared(words: &[u64; ROOM], count: usize) -> Outcome {
 }
 
 pub fn replay(line: &[u8]) -> Outcome {
-    if stored_answers::is_comment(line) {
+    if replay_answers::is_comment(line) {
         return Outcome::Comment;
     }
     let mut words = [0u64; ROOM];
-    let count = stored_answers::numbers(line, &mut words);
+    let count = replay_answers::numbers(line, &mut words);
     compared(&words, count)
 }

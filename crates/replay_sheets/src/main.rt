@@ -2,14 +2,14 @@
 // over the reference; a line that starts with '#' is a comment. Prints how often each number was given, and how many printouts differ.
 mod replay;
 
-use stored_answers::Tally;
+use replay_answers::Tally;
 
 // What the lines of a text came to.
 fn replayed(text: &[u8]) -> Tally {
     let mut tally = Tally::new();
     let mut at = 0usize;
     while at < text.len() {
-        let end = stored_answers::end(text, at, b'\n');
+        let end = replay_answers::end(text, at, b'\n');
         let outcome = replay::replay(&text[at..end]);
         let next = tally.added(outcome);
         tally = next;
@@ -19,7 +19,7 @@ fn replayed(text: &[u8]) -> Tally {
 }
 
 fn main() {
-    let mut input = stored_answers::room();
+    let mut input = replay_answers::room();
     let n = io::read_full(0, &mut input);
     let tally = replayed(&input[..n]);
     tally.print_entry(0, b"run_sheet");

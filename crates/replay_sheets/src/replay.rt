@@ -1,13 +1,13 @@
 // One line: a sheet's run or steady state, and the printout that it must give.
-use printout_reply::PrintReply;
+use printout::PrintReply;
 use refusal::Refusal;
 use refusal::Reply;
-use stored_answers::Outcome;
-use stored_sheets::CELL;
-use stored_sheets::SHEET;
-use stored_sheets::TEXT;
-use stored_sheets::has_text;
-use stored_sheets::kept;
+use replay_answers::CELL;
+use replay_answers::Outcome;
+use replay_answers::SHEET;
+use replay_answers::TEXT;
+use replay_answers::has_text;
+use replay_answers::kept;
 ghost use Prim.Native.Nat.{_≤_};
 ghost use lib.ListN.{length};
 
@@ -21,9 +21,9 @@ fn printed(entry: u64, sheet: &[u8], bytes: usize, out: &mut [u8], cells: usize)
     requires { ⌜ (bytes ≤ length (now sheet)) × (cells ≤ length (now out)) ⌝ }
 {
     if entry == STEADY {
-        return steady_sheet::steady_sheet(&sheet[..bytes], &mut out[..cells]);
+        return rig_steady_sheet::steady_sheet(&sheet[..bytes], &mut out[..cells]);
     }
-    rig::run_sheet(&sheet[..bytes], &mut out[..cells])
+    rig_run_printout::run_sheet(&sheet[..bytes], &mut out[..cells])
 }
 
 // The number of a printout without room: 4 for an answer.
@@ -66,7 +66,7 @@ fn compared(entry: u64, sheet: &[u8; SHEET], bytes: usize, number: u64, text: &[
 // With the line's parts.
 fn called(entry: u64, parts: &[u8]) -> Outcome {
     let mut sheet = [0u8; SHEET];
-    let read = stored_sheets::read(parts, &mut sheet);
+    let read = replay_answers::read(parts, &mut sheet);
     if !read.fits {
         return Outcome::Malformed;
     }
@@ -75,7 +75,7 @@ fn called(entry: u64, parts: &[u8]) -> Outcome {
 }
 
 pub fn replay(line: &[u8]) -> Outcome {
-    if stored_answers::is_comment(line) {
+    if replay_answers::is_comment(line) {
         return Outcome::Comment;
     }
     if line.len() == 0 {

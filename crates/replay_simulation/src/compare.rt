@@ -3,9 +3,9 @@ use crate::shape::Shape;
 use crate::shape::cells;
 use crate::shape::reckoned;
 use crate::shape::reply_at;
-use run_report::Report;
-use stored_answers::ROOM;
-use stored_numbers::same;
+use replay_answers::ROOM;
+use replay_numbers::same;
+use simulation_report::Report;
 ghost use Prim.Native.Nat.{_+_, _≤_, _<_};
 ghost use Rattle.replay_simulation.specs.Places.{Held};
 

@@ -16,15 +16,15 @@ use crate::shape::WINDOW;
 use events::EVENTS;
 use protocol::Event;
 use refusal::Refusal;
-use run_report::RunReply;
-use stored_answers::Outcome;
-use stored_answers::ROOM;
+use replay_answers::Outcome;
+use replay_answers::ROOM;
+use simulation_report::RunReply;
 ghost use Prim.Native.Nat.{_≤_};
 ghost use lib.ListN.{length};
 ghost use Rattle.replay_simulation.specs.Places.{Held};
 
 fn answered(reply: RunReply) -> Answer {
-    let report = run_report::report_of(reply);
+    let report = simulation_report::report_of(reply);
     let began = match reply {
         RunReply::Refused(_) => false,
         RunReply::Stopped { .. } => true,
@@ -42,13 +42,13 @@ fn unfit() -> Answer {
 fn events_fit(words: &[u64], end: usize) -> bool
     requires { ⌜ (23 ≤ end) × (end ≤ length (now words)) ⌝ }
 {
-    layout::events_fit(&words[FIRST_EVENT..end])
+    events_layout::events_fit(&words[FIRST_EVENT..end])
 }
 
 fn events_of(words: &[u64], end: usize) -> [Event; EVENTS]
     requires { ⌜ (23 ≤ end) × (end ≤ length (now words)) ⌝ }
 {
-    layout::events_of(&words[FIRST_EVENT..end])
+    events_layout::events_of(&words[FIRST_EVENT..end])
 }
 
 // The answer to a line's run.
@@ -65,17 +65,17 @@ fn run(
     if !events_fit(words, at) {
         return unfit();
     }
-    let made = stored_answers::made(words, CLEARANCE, EXCHANGE, DEPOT);
+    let made = replay_answers::made(words, CLEARANCE, EXCHANGE, DEPOT);
     let kernel = made.kernel;
-    let amounts = stored_answers::doubles(words, AMOUNTS);
-    let a = stored_answers::count(words, AMOUNTS, &amounts);
-    let samples = stored_answers::doubles(words, at);
-    let s = stored_answers::count(words, at, &samples);
+    let amounts = replay_answers::doubles(words, AMOUNTS);
+    let a = replay_answers::count(words, AMOUNTS, &amounts);
+    let samples = replay_answers::doubles(words, at);
+    let s = replay_answers::count(words, at, &samples);
     let events = events_of(words, at);
     answered(simulation::simulate(
         kernel,
         &amounts[..a],
-        stored_answers::window(words, WINDOW),
+        replay_answers::window(words, WINDOW),
         events,
         shape.events,
         &samples[..s],
@@ -91,7 +91,7 @@ fn compared(words: &[u64; ROOM], count: usize) -> Outcome {
     if !shape::has_shape(words, count, shape) {
         return Outcome::Malformed;
     }
-    let real = bit_patterns::of_bits(REAL);
+    let real = binary64_bits::of_bits(REAL);
     let mut times = [real; ROWS];
     let mut sides = [SIDE; ROWS];
     let mut values = [real; CELLS];
@@ -106,10 +106,10 @@ fn compared(words: &[u64; ROOM], count: usize) -> Outcome {
 }
 
 pub fn replay(line: &[u8]) -> Outcome {
-    if stored_answers::is_comment(line) {
+    if replay_answers::is_comment(line) {
         return Outcome::Comment;
     }
     let mut words = [0u64; ROOM];
-    let count = stored_answers::numbers(line, &mut words);
+    let count = replay_answers::numbers(line, &mut words);
     compared(&words, count)
 }

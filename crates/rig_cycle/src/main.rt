@@ -19,7 +19,7 @@ fn output() -> [u8; 283]
 
 // Runs the cycle and writes its printout; whether all of it was written.
 fn run(sheet: &[u8], text: &mut [u8]) -> bool {
-    let reply = cycle_sheet::cycle_sheet(sheet, text);
+    let reply = rig_cycle_sheet::cycle_sheet(sheet, text);
     io::write_all(1, &text[..reply.length])
 }
 

@@ -12,7 +12,7 @@ fn input() -> [u8; 65537]
 
 // Runs the sheet and writes its printout; whether all of it was written.
 fn run(sheet: &[u8], text: &mut [u8]) -> bool {
-    let reply = rig::run_sheet(sheet, text);
+    let reply = rig_run_printout::run_sheet(sheet, text);
     io::write_all(1, &text[..reply.length])
 }
 

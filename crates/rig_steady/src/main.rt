@@ -19,7 +19,7 @@ fn output() -> [u8; 157]
 
 // Solves the sheet's cycle and writes its printout; whether all of it was written.
 fn run(sheet: &[u8], text: &mut [u8]) -> bool {
-    let reply = steady_sheet::steady_sheet(sheet, text);
+    let reply = rig_steady_sheet::steady_sheet(sheet, text);
     io::write_all(1, &text[..reply.length])
 }
 

@@ -20,7 +20,7 @@ use Rattle.matrix.specs.Matrix.{Matrix, cell, tabulate, allTo}
 use Rattle.binary64.specs.Lists.{all, amountsPass}
 use Rattle.matrix.specs.Exponential.{Scheme, scheme, halvings, countOf, normTo, taylor, allFinite, exponential}
 use Rattle.matrix.proofs.Filled.{tabulate-length}
-use Rattle.interval.specs.Interval.{propagator, amountTo, applied, over, interval}
+use Rattle.linear_pk_interval.specs.Interval.{propagator, amountTo, applied, over, interval}
 use Rattle.linear_pk.specs.declared.kernel.LinearPk.{LinearPk}
 use Rattle.linear_pk.specs.LinearPk.{volumesPass, ratesFinite, sound, stateCount, advance}
 use Rattle.linear_pk.proofs.Counted.{and-first, amounts-count}

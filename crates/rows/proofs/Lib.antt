@@ -5,3 +5,4 @@ pub mod Steps
 pub mod Kernel
 pub mod Exits
 pub mod Lengths
+pub mod Clears

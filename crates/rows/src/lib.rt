@@ -1,4 +1,4 @@
-// The blocks of a run: a row written into lent slices, the kernel's advance and the arrival at a boundary.
+// The blocks of a run: a row written into lent slices, the kernel's advance and the arrival at a boundary; zeros over the reckoned rows.
 use linear_pk::LinearPk;
 use matrix::STATES;
 use refusal::Refusal;
@@ -10,6 +10,8 @@ ghost use lib.ListN.{length, take, drop};
 ghost use Rattle.protocol.specs.Schedule.{arrive as arrives};
 ghost use Rattle.rows.specs.Written.{Cells, put};
 ghost use Rattle.rows.specs.Told.{isRefused, kernelAdvance, movedOf, Ran};
+ghost use Rattle.binary64.specs.Doubles.{plusZero};
+ghost use Rattle.protocol.specs.Entry.{laid};
 
 // Where a run has come to: whether it was refused and at which time; the amounts, what is left of the budget of advances, the advances made, and the rows written.
 pub struct Progress {
@@ -143,5 +145,25 @@ pub fn arrive(
                 rows: row,
             }
         }
+    }
+}
+
+// The first k cells, of times or of values.
+pub fn clear_reals(list: &mut [f64], k: usize)
+    requires { ⌜ k ≤ length (now list) ⌝ }
+    ensures { λ _. ⌜ now (list .exit) ≡ laid plusZero k [] (now (list .entry)) ⌝ }
+{
+    for i in 0..k {
+        list[i] = 0.0;
+    }
+}
+
+// The first k sides.
+pub fn clear_sides(list: &mut [u8], k: usize)
+    requires { ⌜ k ≤ length (now list) ⌝ }
+    ensures { λ _. ⌜ now (list .exit) ≡ laid 0 k [] (now (list .entry)) ⌝ }
+{
+    for i in 0..k {
+        list[i] = 0;
     }
 }

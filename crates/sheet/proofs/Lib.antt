@@ -1,3 +1,4 @@
+pub mod Volumes
 pub mod Bytes
 pub mod Places
 pub mod Reading

@@ -10,7 +10,7 @@ use lib.ListN.{length}
 use Rattle.refusal.specs.Result.{Result, refused, done, andThen, unless, number}
 use Rattle.sheet.specs.Sheet.{wordsOf, word, follow, placed, Sheet, sheetOf, bodiesFit, wordsFit, withinLimits, readSheet}
 use Rattle.sheet.specs.Reader.{placesOf, Located}
-use Rattle.sheet_head.specs.declared.Places.{Places}
+use Rattle.sheet_words.specs.declared.Places.{Places}
 use Rattle.sheet.proofs.Places.{words-length, located, body-length}
 
 abbrev answer : Bool → Sheet → Result Sheet

@@ -1,2 +1,3 @@
+pub mod Model
 pub mod Sheet
 pub mod Reader

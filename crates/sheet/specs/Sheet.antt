@@ -5,12 +5,12 @@ use Prim.Native.Nat.{ℕ}
 use lib.Dec.{eqb, leb}
 use lib.ListN.{length}
 use Rattle.refusal.specs.Result.{Result, andThen, unless}
-use Rattle.layout.specs.Layout.{eventCount, eventsFit}
+use Rattle.events_layout.specs.Layout.{eventCount, eventsFit}
 pub use Rattle.sheet_words.specs.Words.{littleEndian, word}
 unfoldable pub use Rattle.sheet_words.specs.Words.{wordsOf}
-pub use Rattle.sheet_head.specs.Head.{firstOf, countOf, body, follow, wordsFit}
-unfoldable pub use Rattle.sheet_head.specs.Head.{placed}
-unfoldable pub use Rattle.sheet_fits.specs.Model.{modelFits}
+pub use Rattle.sheet_words.specs.Head.{firstOf, countOf, body, follow, wordsFit}
+unfoldable pub use Rattle.sheet_words.specs.Head.{placed}
+unfoldable pub use Rattle.sheet.specs.Model.{modelFits}
 
 -- start, end, rtol, atol, propagation, event and output budgets, absolute, relative
 abbrev pub windowFits : List ℕ → Bool

@@ -1,13 +1,16 @@
 // The reader of a sheet: bytes of any length and contents to the places of its bodies, or 40, then 5. The words stay in the file, and each body is read as its own part of it.
 use refusal::Refusal;
 use refusal::Reply;
-use sheet_head::Places;
+use sheet_words::Places;
 ghost use mathlib.Core.Path.{_≡_};
-ghost use Prim.Native.Nat.{_-_, _*_, _≤_};
+ghost use Prim.Native.Nat.{_+_, _*_, _≤_, _-_};
 ghost use lib.ListN.{length, take, drop};
+ghost use Rattle.events_layout.specs.Layout.{eventFits, eventsFit};
+ghost use Rattle.sheet_words.specs.Words.{wordsOf};
+ghost use Rattle.sheet.specs.Model.{modelFits};
 ghost use Rattle.refusal.specs.Numbers.{refusalNumber, replyNumber};
 ghost use Rattle.refusal.specs.Result.{number};
-ghost use Rattle.sheet.specs.Sheet.{wordsOf, sheetOf, bodiesFit, readSheet};
+ghost use Rattle.sheet.specs.Sheet.{sheetOf, bodiesFit, readSheet};
 ghost use Rattle.sheet.specs.Reader.{noPlaces, placesRead, Located};
 
 // Words of an event.
@@ -19,6 +22,43 @@ const WINDOW: usize = 9;
 const EVENTS: usize = 64;
 
 const SAMPLES: usize = 256;
+
+// Clearance, depot, absorption, volume count, volumes, exchanges.
+pub fn model_fits(part: &[u8]) -> bool
+    ensures { λ r. ⌜ r ≡ modelFits (wordsOf (now (part .entry))) ⌝ }
+{
+    let count = part.len() / 8;
+    if count < 4 {
+        return false;
+    }
+    let depot = sheet_words::word(part, 1);
+    let volumes = sheet_words::word(part, 3);
+    (depot <= 1) & ((1 <= volumes) & ((volumes <= 3) & (count as u64 == 2 * (volumes % 4) + 3)))
+}
+
+fn event_fits(part: &[u8], i: usize) -> bool
+    requires { ⌜ 48 * i + 48 ≤ length (now part) ⌝ }
+    ensures { λ r. ⌜ r ≡ eventFits (wordsOf (now (part .entry))) i ⌝ }
+{
+    let at = EVENT * i;
+    events_layout::listed(
+        sheet_words::word(part, at),
+        sheet_words::word(part, at + 4),
+        sheet_words::word(part, at + 5),
+    )
+}
+
+pub fn events_fit(part: &[u8]) -> bool
+    ensures { λ r. ⌜ r ≡ eventsFit (wordsOf (now (part .entry))) ⌝ }
+{
+    let total = part.len() / 8;
+    let count = total / EVENT;
+    let mut ok = true;
+    for i in 0..count {
+        ok = ok & event_fits(part, i);
+    }
+    (total % EVENT == 0) & ok
+}
 
 // Done, 40 or 5.
 pub struct Read {
@@ -56,8 +96,8 @@ fn bodies_fit(bytes: &[u8], places: Places) -> bool
     requires { ⌜ Located (wordsOf (now bytes)) places ⌝ }
     ensures { λ r. ⌜ r ≡ bodiesFit (sheetOf (wordsOf (now (bytes .entry)))) ⌝ }
 {
-    let model = sheet_fits::model_fits(body(bytes, places.model, places.window));
-    let events = sheet_fits::events_fit(body(bytes, places.events, places.end));
+    let model = model_fits(body(bytes, places.model, places.window));
+    let events = events_fit(body(bytes, places.events, places.end));
     model & ((places.amounts - places.window == WINDOW) & events)
 }
 
@@ -65,10 +105,10 @@ fn bodies_fit(bytes: &[u8], places: Places) -> bool
 pub fn read_sheet(bytes: &[u8]) -> Read
     ensures { λ r. ⌜ (replyNumber (r .reply) ≡ number (readSheet (now (bytes .entry)))) × (r .places ≡ placesRead (wordsOf (now (bytes .entry))) (readSheet (now (bytes .entry)))) ⌝ }
 {
-    if !sheet_head::head_fits(bytes) {
+    if !sheet_words::head_fits(bytes) {
         return refused(Refusal::Layout);
     }
-    let places = sheet_head::places_of(bytes);
+    let places = sheet_words::places_of(bytes);
     let fits = bodies_fit(bytes, places);
     let events = places.end - places.events;
     let samples = places.events - places.samples;

@@ -1,15 +1,19 @@
-// The events that a sheet's words stand for.
+// The events that a sheet's words stand for, and the sum of its doses.
 use events::EVENTS;
 use protocol::Event;
 ghost use mathlib.Core.Path.{_≡_};
 ghost use Prim.Native.Nat.{_+_, _*_, _≤_};
 ghost use lib.ListN.{length};
-ghost use Rattle.layout.specs.Layout.{eventOf, eventOrNone};
+ghost use Rattle.events_layout.specs.Layout.{eventOf, eventOrNone, eventsOf};
 ghost use Rattle.matrix.specs.Matrix.{tabulate};
 ghost use Rattle.sheet_words.specs.Words.{wordsOf};
+ghost use Rattle.sheet_events.specs.OrderedDoses.{plusDose, ordered as orderedOf};
 
 // Words of an event.
 const EVENT: usize = 6;
+
+// Bytes of an event.
+const EVENT_BYTES: usize = 48;
 
 // Event i, whose words are there.
 pub fn event_of(part: &[u8], i: usize) -> Event
@@ -17,7 +21,7 @@ pub fn event_of(part: &[u8], i: usize) -> Event
     ensures { λ r. ⌜ r ≡ eventOf (wordsOf (now (part .entry))) i ⌝ }
 {
     let at = EVENT * i;
-    event_fields::event_from(
+    events_layout::event_from(
         sheet_words::word(part, at),
         sheet_words::word(part, at + 1),
         sheet_words::word(part, at + 2),
@@ -33,7 +37,7 @@ fn event_or_none(part: &[u8], i: usize) -> Event
     if i < part.len() / 8 / EVENT {
         event_of(part, i)
     } else {
-        no_event::no_event()
+        events::no_event()
     }
 }
 
@@ -41,10 +45,47 @@ fn event_or_none(part: &[u8], i: usize) -> Event
 pub fn events_of(part: &[u8]) -> [Event; EVENTS]
     ensures { λ r. ⌜ r ≡ tabulate 192 (eventOrNone (wordsOf (now (part .entry)))) ⌝ }
 {
-    let none = no_event::no_event();
+    let none = events::no_event();
     let mut list = [none; EVENTS];
     for i in 0..EVENTS {
         list[i] = event_or_none(part, i);
     }
     list
+}
+
+fn plus_dose(sum: f64, event: Event) -> f64
+    ensures { λ r. ⌜ r ≡ plusDose sum event ⌝ }
+{
+    match event {
+        Event::Bolus {
+            time: _,
+            target: _,
+            amount,
+        } => sum + amount,
+        Event::Infusion {
+            time: _,
+            target: _,
+            amount,
+            duration: _,
+        } => sum + amount,
+        Event::Reset {
+            time: _,
+            target: _,
+            value: _,
+            order: _,
+            stops: _,
+        } => sum,
+    }
+}
+
+// +0 plus all dose amounts in list order.
+pub fn ordered(events: &[u8]) -> f64
+    ensures { λ r. ⌜ r ≡ orderedOf (eventsOf (wordsOf (now (events .entry)))) ⌝ }
+{
+    let count = events.len() / EVENT_BYTES;
+    let mut sum = 0.0f64;
+    for i in 0..count {
+        sum = plus_dose(sum, event_of(events, i));
+    }
+    sum
 }

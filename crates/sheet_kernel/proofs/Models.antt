@@ -7,7 +7,7 @@ use borrow.Author.Tests.{leb-true, eqb-true}
 use lib.Dec.{T, leb}
 use lib.ListN.{length}
 use Rattle.sheet_words.specs.Words.{word}
-use Rattle.sheet_fits.specs.Model.{modelFits}
+use Rattle.sheet.specs.Model.{modelFits}
 
 pub record Fitting (m : List ℕ) : Type 0 where
   pub some : 1 ≤ word m 3

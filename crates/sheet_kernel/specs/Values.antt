@@ -7,8 +7,8 @@ use lib.Ieee.{Float}
 use Rattle.refusal.specs.Result.{Result}
 use Rattle.linear_pk.specs.LinearPk.{new}
 use Rattle.linear_pk.specs.declared.kernel.LinearPk.{LinearPk}
-use Rattle.parameters.specs.declared.Absorption.{Absorption}
-use Rattle.parameters.specs.declared.Absorption.the-variants.{Absent, FirstOrder}
+use Rattle.linear_pk_values.specs.declared.Absorption.{Absorption}
+use Rattle.linear_pk_values.specs.declared.Absorption.the-variants.{Absent, FirstOrder}
 use Rattle.sheet_words.specs.Words.{word}
 pub use Rattle.sheet_values.specs.Values.{doubleOf, doublesFrom, propagationsOf}
 unfoldable pub use Rattle.sheet_values.specs.Values.{windowOf}

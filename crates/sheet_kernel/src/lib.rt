@@ -1,7 +1,8 @@
-// The kernel of a sheet's model.
+// The kernel of a sheet's model, and the tolerance of its closed cycle.
+use cycle::SteadyStateTolerance;
 use linear_pk::LinearPk;
 use linear_pk::Made;
-use parameters::Absorption;
+use linear_pk_values::Absorption;
 ghost use mathlib.Core.Path.{_≡_};
 ghost use mathlib.Core.Bool.{true};
 ghost use Prim.Native.Nat.{_+_, _-_, _*_, _≤_};
@@ -10,8 +11,9 @@ ghost use Rattle.refusal.specs.Numbers.{resultOf};
 ghost use Rattle.linear_pk.specs.LinearPk.{noKernel};
 ghost use Rattle.refusal.specs.Result.{valueOr};
 ghost use Rattle.sheet_words.specs.Words.{wordsOf, word};
-ghost use Rattle.sheet_fits.specs.Model.{modelFits};
+ghost use Rattle.sheet.specs.Model.{modelFits};
 ghost use Rattle.sheet_kernel.specs.Values.{absorptionOf, modelOf};
+ghost use Rattle.sheet_kernel.specs.CycleTolerance.{toleranceOf};
 
 fn absorption_of(part: &[u8]) -> Absorption
     requires { ⌜ 32 ≤ length (now part) ⌝ }
@@ -51,4 +53,15 @@ pub fn kernel_of(part: &[u8]) -> Made
     let mut volumes = [0.0f64; 3];
     let mut exchange = [0.0f64; 2];
     kernel_from(part, &mut volumes[..count], &mut exchange[..count - 1])
+}
+
+// The last two words of the window.
+pub fn tolerance_of(window: &[u8]) -> SteadyStateTolerance
+    requires { ⌜ 72 ≤ length (now window) ⌝ }
+    ensures { λ r. ⌜ r ≡ toleranceOf (wordsOf (now (window .entry))) ⌝ }
+{
+    SteadyStateTolerance {
+        absolute: sheet_values::double(window, 7),
+        relative: sheet_values::double(window, 8),
+    }
 }

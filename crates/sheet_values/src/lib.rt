@@ -10,7 +10,7 @@ pub fn double(part: &[u8], i: usize) -> f64
     requires { ⌜ 8 * i + 8 ≤ length (now part) ⌝ }
     ensures { λ r. ⌜ r ≡ doubleOf (wordsOf (now (part .entry))) i ⌝ }
 {
-    bit_patterns::of_bits(sheet_words::word(part, i))
+    binary64_bits::of_bits(sheet_words::word(part, i))
 }
 
 // As many doubles from word i on as there is room for.

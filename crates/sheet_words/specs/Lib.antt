@@ -1,1 +1,3 @@
 pub mod Words
+pub mod Head
+pub mod Places

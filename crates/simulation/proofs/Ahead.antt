@@ -30,11 +30,11 @@ use Rattle.protocol.specs.Entry.{mostEvents, mostSamples, Room, roomFor, ahead,
 use Rattle.protocol.specs.Entry as E
 use Rattle.protocol.proofs.EntryLaws.{simulate-runs, simulate-refuses}
 use Rattle.protocol.proofs.ListLaws.{both}
-use Rattle.prepared_run.specs.KernelRun.{propagatorOf}
+use Rattle.simulation.specs.KernelRun.{propagatorOf}
 use Rattle.preparation.specs.Preparation.{ownNumber, numberOf}
-use Rattle.run_report.specs.Replies.{runReply}
+use Rattle.simulation_report.specs.Replies.{runReply}
 use Rattle.simulation.specs.Entries.{simulateEntry}
-use Rattle.run_report.specs.declared.RunReply.the-variants.{Refused}
+use Rattle.simulation_report.specs.declared.RunReply.the-variants.{Refused}
 use Rattle.refusal.proofs.Numbers.{refusal-number}
 use Rattle.preparation.proofs.Tests.{prepare-passes}
 

@@ -1,1 +1,3 @@
+pub mod KernelRuns
+pub mod Whole
 pub mod Ahead

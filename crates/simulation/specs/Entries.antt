@@ -13,8 +13,8 @@ use Rattle.protocol.specs.Entry.{mostEvents, Room, simulate}
 use Rattle.protocol.specs.declared.Event.{Event}
 use Rattle.protocol.specs.declared.Window.{Window}
 use Rattle.preparation.specs.Preparation.{ownNumber}
-use Rattle.prepared_run.specs.KernelRun.{propagatorOf}
-pub use Rattle.run_report.specs.Replies.{room, runReply, reported}
+use Rattle.simulation.specs.KernelRun.{propagatorOf}
+pub use Rattle.simulation_report.specs.Replies.{room, runReply, reported}
 
 -- of the first `count` events: 5 for more than the most, else the library's run
 unfoldable pub simulateEntry : LinearPk → List Float → Window → List Event → ℕ → List Float → Room → Result Outcome

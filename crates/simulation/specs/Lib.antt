@@ -1,1 +1,2 @@
+pub mod KernelRun
 pub mod Entries

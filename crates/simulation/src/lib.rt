@@ -1,19 +1,104 @@
 // `simulate`: the tests ahead of a run, the run, and what it leaves in the three lent slices.
 use events::EVENTS;
 use linear_pk::LinearPk;
+use matrix::STATES;
 use preparation::SAMPLES;
 use protocol::Event;
 use protocol::Window;
 use refusal::Refusal;
 use refusal::Reply;
-use run_report::RunReply;
+use simulation_report::RunReply;
 ghost use mathlib.Core.Path.{_≡_};
+ghost use mathlib.Core.List.{[]};
+ghost use mathlib.Core.Option.{none};
+ghost use Prim.Native.Nat.{_≤_, _*_};
 ghost use lib.ListN.{length, take};
-ghost use Rattle.linear_pk.specs.LinearPk.{stateCount};
+ghost use Rattle.binary64.specs.Doubles.{plusZero};
+ghost use Rattle.refusal.specs.Result.{done};
+ghost use Rattle.linear_pk.specs.LinearPk.{stateCount, sound};
+ghost use Rattle.events.specs.Packed.{packed};
 ghost use Rattle.protocol.specs.Prepare.{reckoned};
-ghost use Rattle.protocol.specs.Entry.{replyOf, timesAtExit, sidesAtExit, valuesAtExit};
-ghost use Rattle.run_report.specs.Replies.{room, runReply};
+ghost use Rattle.protocol.specs.Execute.{runOf};
+ghost use Rattle.protocol.specs.Entry.{ahead, replyOf, laid, timesAtExit, sidesAtExit, valuesAtExit};
+ghost use Rattle.rows.specs.Written.{cells, Room};
+ghost use Rattle.preparation.specs.Preparation.{ownNumber};
+ghost use Rattle.simulation_report.specs.Replies.{room, runReply};
+ghost use Rattle.simulation.specs.KernelRun.{propagatorOf};
 ghost use Rattle.simulation.specs.Entries.{simulateEntry};
+
+// The most boundaries: start, end, two for each event.
+const BOUNDARIES: usize = 386;
+
+// Zeros over the reckoned rows, of n amounts each.
+fn clear(times: &mut [f64], sides: &mut [u8], values: &mut [f64], rows: usize, n: usize)
+    requires { ⌜ (n ≤ 4) × Room n rows (cells (now times) (now sides) (now values)) ⌝ }
+    ensures { λ _. ⌜ (now (times .exit) ≡ laid plusZero rows [] (now (times .entry))) × (now (sides .exit) ≡ laid 0 rows [] (now (sides .entry)))
+        × (now (values .exit) ≡ laid plusZero (rows * n) [] (now (values .entry))) ⌝ }
+{
+    rows::clear_reals(times, rows);
+    rows::clear_sides(sides, rows);
+    rows::clear_reals(values, rows * n);
+}
+
+// The run that no test ahead refuses: its rows over zeros, and zeros alone where it stops.
+pub fn run_prepared(
+    kernel: LinearPk,
+    initial: [f64; STATES],
+    window: Window,
+    reals: &[[f64; 3]; EVENTS],
+    words: &[[usize; 4]; EVENTS],
+    count: usize,
+    samples: &[f64],
+    times: &mut [f64],
+    sides: &mut [u8],
+    values: &mut [f64],
+) -> RunReply
+    requires { ⌜ ahead (ownNumber (sound kernel)) (stateCount kernel) window (now samples) (packed (now reals) (now words) count) (take (stateCount kernel) initial)
+        (room (length (now times)) (length (now sides)) (length (now values))) ≡ none ⌝ }
+    ensures { λ r. ⌜ runReply r ≡ replyOf (done (runOf (propagatorOf kernel) (stateCount kernel) window (now (samples .entry)) (packed (now (reals .entry)) (now (words .entry)) count) (take (stateCount kernel) initial))) ⌝ }
+    ensures { λ r. ⌜ now (times .exit) ≡ timesAtExit (reckoned (now (samples .entry)) (packed (now (reals .entry)) (now (words .entry)) count))
+        (done (runOf (propagatorOf kernel) (stateCount kernel) window (now (samples .entry)) (packed (now (reals .entry)) (now (words .entry)) count) (take (stateCount kernel) initial))) (now (times .entry)) ⌝ }
+    ensures { λ r. ⌜ now (sides .exit) ≡ sidesAtExit (reckoned (now (samples .entry)) (packed (now (reals .entry)) (now (words .entry)) count))
+        (done (runOf (propagatorOf kernel) (stateCount kernel) window (now (samples .entry)) (packed (now (reals .entry)) (now (words .entry)) count) (take (stateCount kernel) initial))) (now (sides .entry)) ⌝ }
+    ensures { λ r. ⌜ now (values .exit) ≡ valuesAtExit (reckoned (now (samples .entry)) (packed (now (reals .entry)) (now (words .entry)) count)) (stateCount kernel)
+        (done (runOf (propagatorOf kernel) (stateCount kernel) window (now (samples .entry)) (packed (now (reals .entry)) (now (words .entry)) count) (take (stateCount kernel) initial))) (now (values .entry)) ⌝ }
+{
+    let n = kernel.state_count();
+    let rows = 4 * count + samples.len() + 2;
+    clear(times, sides, values, rows, n);
+    let mut readings = [0.0f64; SAMPLES];
+    let mut bounds = [0.0f64; BOUNDARIES];
+    let p = simulation_matrix::on_schedule(
+        kernel,
+        n,
+        initial,
+        window,
+        reals,
+        words,
+        count,
+        samples,
+        &mut readings,
+        &mut bounds,
+        times,
+        sides,
+        values,
+    );
+    let reply = p.reply;
+    match reply {
+        Reply::Refused(refusal) => {
+            clear(times, sides, values, rows, n);
+            RunReply::Stopped {
+                refusal,
+                time: p.time,
+                advances: p.made,
+            }
+        }
+        Reply::Done => RunReply::Reached {
+            rows: p.rows,
+            advances: p.made,
+        },
+    }
+}
 
 // A run of the first count events from the amounts: 5, 1, 2, 3, the preparation, 4, then the run.
 pub fn simulate(
@@ -51,9 +136,9 @@ pub fn simulate(
             let mut reals = [real; EVENTS];
             let word = [0usize; 4];
             let mut words = [word; EVENTS];
-            packing::pack(events, count, &mut reals, &mut words);
+            events_packing::pack(events, count, &mut reals, &mut words);
             let n = kernel.state_count();
-            let reply = run_admission::admitted(
+            let reply = preparation::admission::admitted(
                 n,
                 window,
                 samples,
@@ -69,7 +154,7 @@ pub fn simulate(
                 Reply::Done => {
                     let start = made.bound;
                     let initial = start.initial;
-                    prepared_run::run_prepared(
+                    run_prepared(
                         kernel,
                         initial,
                         window,

@@ -5,7 +5,7 @@ use native.Mathlib.Omega.{arith}
 use Prim.Native.Nat.{_≤_, _-_}
 use Rattle.refusal.specs.Result.{done}
 use Rattle.cycle.specs.Elimination.{eliminateTo}
-use Rattle.system_entries.specs.Systems.{held}
+use Rattle.elimination_system.specs.Systems.{held}
 use Rattle.elimination.proofs.Columns.{column-refused, column-more, solve-refused, solve-done}
 use Rattle.elimination.proofs.solve.Statement.{statement}
 use Rattle.elimination.proofs.solve.Tie as tie

@@ -4,7 +4,7 @@ use borrow.Author.Needs.{needs}
 use borrow.Author.Tests.{not-true, not-false}
 use lib.Ieee.{ofBits}
 use Rattle.matrix.specs.Exponential.{scheme}
-use Rattle.norm.specs.Answers.{halvingsResult}
+use Rattle.exponential_norm.specs.Answers.{halvingsResult}
 use Rattle.matrix.proofs.Cases.{exponential-refused, exponential-at}
 use Rattle.exponential.proofs.exponential.Statement.{statement}
 use Rattle.exponential.proofs.exponential.Tie as tie

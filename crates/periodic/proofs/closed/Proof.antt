@@ -5,8 +5,8 @@ use lib.Dec.{leb}
 use lib.ListN.{length}
 use Rattle.events.specs.Packed.{packed}
 use Rattle.events.proofs.Packing.{packed-length}
-use Rattle.prepared_run.specs.KernelRun.{propagatorOf}
-use Rattle.steady_reply.proofs.Answered.{refuses, answers-as, folded-runs, zeroed-runs, closed-stops, closed-goes}
+use Rattle.simulation.specs.KernelRun.{propagatorOf}
+use Rattle.periodic_acceptance.proofs.Answered.{refuses, answers-as, folded-runs, zeroed-runs, closed-stops, closed-goes}
 use Rattle.periodic.proofs.closed.Statement.{statement}
 use Rattle.periodic.proofs.closed.Tie as tie
 

@@ -2,8 +2,8 @@
 use borrow.Author.Needs.{needs}
 use borrow.Author.Tests.{lt-leb, le-leb}
 use lib.ListN.{length}
-use Rattle.steady_reply.specs.Entry.{steadyRoom}
-use Rattle.steady_reply.proofs.Answered.{refuses, answers-as, limit-stops, kernel-stops, entry-goes}
+use Rattle.periodic_acceptance.specs.Entry.{steadyRoom}
+use Rattle.periodic_acceptance.proofs.Answered.{refuses, answers-as, limit-stops, kernel-stops, entry-goes}
 use Rattle.periodic.proofs.periodic_steady_state.Statement.{statement}
 use Rattle.periodic.proofs.periodic_steady_state.Tie as tie
 

@@ -1,8 +1,8 @@
 -- `printout_lines::put_head` meets its contract.
 use native.Mathlib.Omega.{arith}
 use Rattle.printout_lines.specs.Lines.{headLine}
-use Rattle.number_text.proofs.Writing.{wrote-both}
-use Rattle.number_text.proofs.Counts.{decimal-length}
+use Rattle.printout_numbers.proofs.Writing.{wrote-both}
+use Rattle.printout_numbers.proofs.Counts.{decimal-length}
 use Rattle.printout_lines.proofs.Lengths.{head-length}
 use borrow.Author.Needs.{needs}
 use Rattle.printout_lines.proofs.put_head.Statement.{statement}

@@ -1,8 +1,8 @@
 -- `printout_lines::put_ordered` meets its contract.
 use native.Mathlib.Omega.{arith}
 use Rattle.printout_lines.specs.Lines.{orderedLine}
-use Rattle.number_text.proofs.Writing.{wrote-both}
-use Rattle.number_text.proofs.Counts.{double-length}
+use Rattle.printout_numbers.proofs.Writing.{wrote-both}
+use Rattle.printout_numbers.proofs.Counts.{double-length}
 use borrow.Author.Needs.{needs}
 use Rattle.printout_lines.proofs.put_ordered.Statement.{statement}
 use Rattle.printout_lines.proofs.put_ordered.Tie as tie

@@ -1,7 +1,7 @@
 -- `printout_lines::put_refused` meets its contract.
 use native.Mathlib.Omega.{arith}
 use Rattle.printout_lines.specs.Lines.{refusedText}
-use Rattle.number_text.proofs.Writing.{wrote-both}
+use Rattle.printout_numbers.proofs.Writing.{wrote-both}
 use Rattle.printout_lines.proofs.Lengths.{refused-parts}
 use borrow.Author.Needs.{needs}
 use Rattle.printout_lines.proofs.put_refused.Statement.{statement}

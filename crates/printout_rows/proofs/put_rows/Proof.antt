@@ -4,8 +4,8 @@ use native.Mathlib.Nat.{le-antisymm}
 use native.Mathlib.Numerals.{add-one}
 use Prim.Native.Nat.{_-_, _*_, _≤_}
 use Rattle.printout_rows.specs.Rows.{rowLines}
-use Rattle.number_text.specs.Written.{Wrote}
-use Rattle.number_text.proofs.Writing.{wrote-both, wrote-none}
+use Rattle.printout_numbers.specs.Written.{Wrote}
+use Rattle.printout_numbers.proofs.Writing.{wrote-both, wrote-none}
 use Rattle.printout_rows.proofs.Lengths.{part-size, rows-below, row-room}
 use borrow.Author.Needs.{needs}
 use Rattle.printout_rows.proofs.put_rows.Statement.{statement}

@@ -3,8 +3,8 @@ use mathlib.Core.Path.{sym}
 use borrow.Author.Needs.{needs}
 use native.Mathlib.Omega.{arith}
 use lib.Seq.{length-take-le}
-use Rattle.steady_sheet.specs.SteadySheet.{steadyPrintoutOfBytes}
-use Rattle.printout_reply.proofs.Replies.{printed-within}
+use Rattle.rig_steady_sheet.specs.SteadySheet.{steadyPrintoutOfBytes}
+use Rattle.printout.proofs.Replies.{printed-within}
 use Rattle.rig_steady.proofs.run.Statement.{statement}
 use Rattle.rig_steady.proofs.run.Tie as tie
 

@@ -3,7 +3,7 @@ use borrow.Author.Needs.{needs}
 use Prim.Native.Nat.{_-_}
 use lib.ListN.{length}
 use lib.Ieee.{nan}
-use Rattle.interval.proofs.Laid.{Laying, laying-start, laying-more, laying-done}
+use Rattle.linear_pk_interval.proofs.Laid.{Laying, laying-start, laying-more, laying-done}
 use Rattle.rows.proofs.row_writer.Statement.{statement}
 use Rattle.rows.proofs.row_writer.Tie as tie
 

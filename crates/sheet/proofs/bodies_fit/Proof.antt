@@ -2,7 +2,7 @@
 use mathlib.Core.Path.{sym, ap, ap₂, _∙_}
 use mathlib.Core.Bool.{_&&_}
 use lib.Dec.{eqb}
-use Rattle.layout.specs.Layout.{eventsFit}
+use Rattle.events_layout.specs.Layout.{eventsFit}
 use native.Mathlib.Omega.{arith}
 use Prim.Native.Nat.{ℕ, _≤_}
 use lib.ListN.{length}

@@ -1,7 +1,7 @@
 -- `sheet_events::event_of` meets its contract.
 use mathlib.Core.Path.{_∙_}
 use native.Mathlib.Nat.{add-zero}
-use Rattle.layout.specs.Layout.{eventOf}
+use Rattle.events_layout.specs.Layout.{eventOf}
 use borrow.Author.Needs.{needs}
 use Rattle.sheet_events.proofs.event_of.Statement.{statement}
 use Rattle.sheet_events.proofs.event_of.Tie as tie

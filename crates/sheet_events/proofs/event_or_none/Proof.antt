@@ -1,6 +1,6 @@
 -- `sheet_events::event_or_none` meets its contract.
 use borrow.Author.Tests.{lt-ltb, le-ltb}
-use Rattle.layout.specs.Layout.{eventOrNone}
+use Rattle.events_layout.specs.Layout.{eventOrNone}
 use Rattle.sheet_words.proofs.Bytes.{words-length}
 use borrow.Author.Needs.{needs}
 use Rattle.sheet_events.proofs.event_or_none.Statement.{statement}

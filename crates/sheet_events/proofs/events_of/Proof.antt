@@ -5,7 +5,7 @@ use native.Mathlib.Omega.{arith}
 use Prim.Native.Nat.{_≤_, _-_}
 use Rattle.matrix.proofs.Filled.{fill, fillFrom, fill-more, filled}
 use Rattle.protocol.specs.Events.{noEvent}
-use Rattle.layout.specs.Layout.{eventOrNone}
+use Rattle.events_layout.specs.Layout.{eventOrNone}
 use Rattle.sheet_words.specs.Words.{wordsOf}
 use Rattle.sheet_events.proofs.events_of.Statement.{statement}
 use Rattle.sheet_events.proofs.events_of.Tie as tie

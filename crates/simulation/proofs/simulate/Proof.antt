@@ -5,7 +5,7 @@ use borrow.Author.Tests.{lt-leb, le-leb}
 use lib.ListN.{length, take}
 use Rattle.linear_pk.specs.LinearPk.{stateCount}
 use Rattle.protocol.specs.Prepare.{reckoned}
-use Rattle.run_report.specs.Replies.{room}
+use Rattle.simulation_report.specs.Replies.{room}
 use Rattle.refusal.specs.Numbers.{replyNumber}
 use Rattle.refusal.specs.declared.Refusal.the-variants as R
 use Rattle.simulation.proofs.Ahead.{refuses, over-count, over-samples, bind-refused, bound-takes, code-passes, code-refuses, code-runs}

@@ -1,4 +1,4 @@
--- `capi::cycles::linear_pk_normalize_periodic_cycle` meets its contract: it is `cycle_words::fold_words`'s.
+-- `capi::cycles::linear_pk_normalize_periodic_cycle` meets its contract: it is `capi_fold::fold_words`'s.
 use borrow.Author.Needs.{needs}
 use Rattle.capi.proofs.cycles.linear_pk_normalize_periodic_cycle.Statement.{statement}
 use Rattle.capi.proofs.cycles.linear_pk_normalize_periodic_cycle.Tie as tie

@@ -1,4 +1,4 @@
--- `capi::cycles::linear_pk_periodic_steady_state` meets its contract: it is `steady_words::steady_words`'s.
+-- `capi::cycles::linear_pk_periodic_steady_state` meets its contract: it is `capi_steady::steady_words`'s.
 use borrow.Author.Needs.{needs}
 use Rattle.capi.proofs.cycles.linear_pk_periodic_steady_state.Statement.{statement}
 use Rattle.capi.proofs.cycles.linear_pk_periodic_steady_state.Tie as tie

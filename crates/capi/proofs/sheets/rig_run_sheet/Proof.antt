@@ -1,4 +1,4 @@
--- `capi::sheets::rig_run_sheet` meets its contract: it is `rig::run_sheet`'s.
+-- `capi::sheets::rig_run_sheet` meets its contract: it is `rig_run_printout::run_sheet`'s.
 use borrow.Author.Needs.{needs}
 use Rattle.capi.proofs.sheets.rig_run_sheet.Statement.{statement}
 use Rattle.capi.proofs.sheets.rig_run_sheet.Tie as tie

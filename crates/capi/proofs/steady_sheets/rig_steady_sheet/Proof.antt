@@ -1,4 +1,4 @@
--- `capi::steady_sheets::rig_steady_sheet` meets its contract: it is `steady_sheet::steady_sheet`'s.
+-- `capi::steady_sheets::rig_steady_sheet` meets its contract: it is `rig_steady_sheet::steady_sheet`'s.
 use borrow.Author.Needs.{needs}
 use Rattle.capi.proofs.steady_sheets.rig_steady_sheet.Statement.{statement}
 use Rattle.capi.proofs.steady_sheets.rig_steady_sheet.Tie as tie

@@ -1,2 +1,0 @@
--- The laws of the acceptance.
-pub mod Chain

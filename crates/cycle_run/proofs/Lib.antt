@@ -1,2 +1,0 @@
--- The laws of the inner runs.
-pub mod Inner

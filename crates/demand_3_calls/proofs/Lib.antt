@@ -1,2 +1,0 @@
-pub mod Doubles
-pub mod Calls

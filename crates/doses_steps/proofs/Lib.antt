@@ -1,0 +1,3 @@
+pub mod Amounts
+pub mod Steps
+pub mod Boluses

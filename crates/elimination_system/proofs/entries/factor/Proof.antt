@@ -1,0 +1,15 @@
+-- `elimination_system::entries::factor` meets its contract.
+use borrow.Author.Needs.{needs}
+use Rattle.cycle.specs.Elimination.{factor}
+use Rattle.elimination_system.proofs.entries.factor.Statement.{statement}
+use Rattle.elimination_system.proofs.entries.factor.Tie as tie
+
+returns : tie.Need-returns
+unfolding factor
+returns c = rw (c .before .at .ensures, c .at2 .ensures)
+
+pub factor-spec : {M : Type 1} → statement M
+factor-spec =
+    tie.close
+    (tie.spec
+    (λ c κs. search needs) (λ c κs. search needs) returns)

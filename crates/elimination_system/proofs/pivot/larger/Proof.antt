@@ -1,0 +1,17 @@
+-- `elimination_system::pivot::larger` meets its contract.
+use borrow.Author.Needs.{needs}
+use Rattle.elimination_system.proofs.pivot.larger.Statement.{statement}
+use Rattle.elimination_system.proofs.pivot.larger.Tie as tie
+
+returns : tie.Need-returns
+returns c = rw (← c .before .before .before .before .before .at .ensures, ← c .before .before .before .at2 .ensures, ← c .before .before .before .before .abs .ensures, ← c .before .before .abs2 .ensures, ← c .before .total-le .ensures, c .if1 .taken)
+
+returns-2 : tie.Need-returns-2
+returns-2 c = rw (← c .before .before .before .before .before .at .ensures, ← c .before .before .before .at2 .ensures, ← c .before .before .before .before .abs .ensures, ← c .before .before .abs2 .ensures, ← c .before .total-le .ensures, c .if1 .left)
+
+pub larger-spec : {M : Type 1} → statement M
+larger-spec =
+    tie.close
+    (tie.spec
+    (λ c κs. search needs) (λ c κs. search needs) (λ c κs. search needs) (λ c κs. search needs) (λ c κs. search needs) returns
+    returns-2)

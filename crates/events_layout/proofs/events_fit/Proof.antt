@@ -1,0 +1,35 @@
+-- `events_layout::events_fit` meets its contract. The invariant: whether the first i events fit.
+use mathlib.Core.Path.{_≡_, refl}
+use borrow.Author.Needs.{needs}
+use native.Mathlib.Omega.{arith}
+use native.Mathlib.Nat.{le-antisymm}
+use native.Mathlib.Numerals.{add-one}
+use Prim.Native.Nat.{_≤_, _-_}
+use Rattle.matrix.specs.Matrix.{allTo}
+use Rattle.events_layout.specs.Layout.{eventFits, eventsFit}
+use Rattle.events_layout.proofs.events_fit.Statement.{statement}
+use Rattle.events_layout.proofs.events_fit.Tie as tie
+
+abbrev Inv-loop : tie.InvT-loop
+Inv-loop words count ok₀ i₀ ok i = (i ≤ count) × (ok ≡ allTo (eventFits words) i)
+
+abbrev μ-loop : tie.MeasureT-loop
+μ-loop words count ok₀ i₀ ok i = count - i
+
+loop-holds : tie.Need-loop-holds Inv-loop μ-loop
+unfolding allTo
+loop-holds c = (omega arith, refl)
+
+loop-again : tie.Need-loop-again Inv-loop μ-loop
+unfolding allTo
+loop-again c = (omega arith, rw (add-one, c .event-fits .ensures, c .before .before .loop .inv .1))
+
+returns : tie.Need-returns Inv-loop μ-loop
+unfolding eventsFit
+returns c = rw (rw (le-antisymm (c .before .loop .inv .0) (c .loop-test .left)) at (c .before .loop .inv .1))
+
+pub events-fit-spec : {M : Type 1} → statement M
+events-fit-spec =
+    tie.close
+    (tie.spec
+    Inv-loop μ-loop loop-holds (λ c κs. search needs) (λ c. search needs) (λ c. search needs) loop-again returns)

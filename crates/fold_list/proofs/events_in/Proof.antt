@@ -1,0 +1,36 @@
+-- `fold_list::events_in` meets its contract. The invariant: the first i places hold the events of the list.
+use mathlib.Core.Path.{_≡_, refl, _∙_}
+use native.Mathlib.Omega.{arith}
+use Prim.Native.Nat.{ℕ, _≤_, _-_}
+use lib.ListN.{getD}
+use lib.Ieee.{nan}
+use Rattle.matrix.proofs.Filled.{fill, fillFrom, fill-more, filled}
+use Rattle.protocol.specs.declared.Event.the-variants.{Bolus}
+use Rattle.protocol.specs.Events.{noEvent}
+use Rattle.fold_list.specs.Answers.{eventIn}
+use Rattle.fold_list.proofs.Lists.{all-events}
+use borrow.Author.Needs.{needs}
+use Rattle.fold_list.proofs.events_in.Statement.{statement}
+use Rattle.fold_list.proofs.events_in.Tie as tie
+
+abbrev Inv-loop : tie.InvT-loop
+Inv-loop list found₀ i₀ found i = (i ≤ 192) × (found ≡ fill 192 i (λ (i : ℕ). eventIn (getD list i (record { event = Bolus nan 0 nan }))) noEvent)
+
+abbrev μ-loop : tie.MeasureT-loop
+μ-loop list found₀ i₀ found i = 192 - i
+
+loop-holds : tie.Need-loop-holds Inv-loop μ-loop
+unfolding fill fillFrom
+loop-holds c = (omega arith, rw (c .no-event .ensures))
+
+loop-again : tie.Need-loop-again Inv-loop μ-loop
+loop-again c = (omega arith, fill-more _ _ _ _ (c .before .before .loop .inv .1) refl (omega arith))
+
+returns : tie.Need-returns Inv-loop μ-loop
+returns c = filled _ _ _ _ (c .before .loop .inv .0) (c .loop-test .left) (c .before .loop .inv .1) ∙ all-events (c .before .before .before .args .t1) (record { event = Bolus nan 0 nan }) 192 (search needs)
+
+pub events-in-spec : {M : Type 1} → statement M
+events-in-spec =
+    tie.close
+    (tie.spec
+    Inv-loop μ-loop (λ c κs. search needs) loop-holds (λ c. search needs) (λ c. search needs) (λ c. search needs) (λ c. search needs) (λ c. search needs) (λ c. search needs) loop-again returns)

@@ -1,0 +1,32 @@
+-- `fold_stop::stop_of` meets its contract. The invariant: what the events that are left make of the stop is the whole answer.
+use mathlib.Core.Path.{_≡_}
+use borrow.Author.Needs.{needs}
+use native.Mathlib.Omega.{arith}
+use Prim.Native.Nat.{_≤_, _-_}
+use Rattle.cycle.specs.Fold.{stopOf}
+use Rattle.events.specs.Packed.{packed}
+use Rattle.fold_stop.proofs.Loops.{stopFrom, stop-start, stop-more, stop-done}
+use Rattle.fold_stop.proofs.stop_of.Statement.{statement}
+use Rattle.fold_stop.proofs.stop_of.Tie as tie
+
+abbrev Inv-loop : tie.InvT-loop
+Inv-loop period time target until reals words count stop₀ k₀ stop k = (k ≤ count) × (stopFrom reals words count period time target k stop ≡ stopOf period time target until (packed reals words count))
+
+abbrev μ-loop : tie.MeasureT-loop
+μ-loop period time target until reals words count stop₀ k₀ stop k = count - k
+
+loop-holds : tie.Need-loop-holds Inv-loop μ-loop
+loop-holds c = (omega arith, stop-start _ _ _ _ _ _ _)
+
+loop-again : tie.Need-loop-again Inv-loop μ-loop
+loop-again c = (omega arith, stop-more _ _ _ _ _ _ (c .before .before .before .loop .k) (c .before .before .before .loop .stop) (c .before .before .loop-test .taken) (rw (c .before .event-at .ensures) at (c .stopped-by .ensures)) (c .before .before .before .loop .inv .1))
+
+returns : tie.Need-returns Inv-loop μ-loop
+returns c = stop-done _ _ _ _ _ _ (c .before .loop .k) (c .before .loop .stop) (c .loop-test .left) (c .before .loop .inv .1)
+
+pub stop-of-spec : {M : Type 1} → statement M
+stop-of-spec =
+    tie.close
+    (tie.spec
+    Inv-loop μ-loop loop-holds (λ c κs. search needs) (λ c κs. search needs) (λ c. search needs) (λ c. search needs) loop-again
+    returns)

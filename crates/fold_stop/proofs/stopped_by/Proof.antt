@@ -1,0 +1,17 @@
+-- `fold_stop::stopped_by` meets its contract.
+use borrow.Author.Needs.{needs}
+use Rattle.cycle.specs.Fold.{stopping}
+use Rattle.fold_stop.proofs.stopped_by.Statement.{statement}
+use Rattle.fold_stop.proofs.stopped_by.Tie as tie
+
+returns : tie.Need-returns
+returns c = rw (← c .before .before .before .before .stopping .ensures, c .before .before .before .if1 .taken) (rw (c .before .next-time .ensures, c .before .before .time-of .ensures) at (c .earlier .ensures))
+
+returns-2 : tie.Need-returns-2
+returns-2 c = rw (← c .before .stopping .ensures, c .if1 .left)
+
+pub stopped-by-spec : {M : Type 1} → statement M
+stopped-by-spec =
+    tie.close
+    (tie.spec
+    (λ c κs. search needs) (λ c κs. search needs) (λ c κs. search needs) (λ c κs. search needs) returns returns-2)

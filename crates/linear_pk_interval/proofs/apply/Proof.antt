@@ -1,0 +1,32 @@
+-- `linear_pk_interval::apply` meets its contract.
+use mathlib.Core.Path.{refl, sym, ap, _∙_}
+use borrow.Author.Needs.{needs}
+use native.Mathlib.Omega.{arith}
+use lib.ListN.{length}
+use borrow.Author.Tests.{not-true, not-false}
+use Rattle.matrix.proofs.Filled.{tabulate-length}
+use Rattle.linear_pk_interval.proofs.Cases.{applied-at}
+use Rattle.linear_pk_interval.proofs.apply.Statement.{statement}
+use Rattle.linear_pk_interval.proofs.apply.Tie as tie
+
+returns : tie.Need-returns
+returns c = rw (applied-at _ _ _ _ _ (c .before .inputs-finite .ensures) refl refl, not-true (c .before .inputs-finite .result) (c .if1 .taken)) (refl, refl)
+
+slice-aggregate-after : tie.Need-slice-aggregate-after
+slice-aggregate-after c = sym (ap length (c .before .amounts-after .ensures) ∙ tabulate-length _ _)
+
+returns-2 : tie.Need-returns-2
+returns-2 c = rw (applied-at _ _ _ _ _ (c .before .before .before .before .before .inputs-finite .ensures) (c .before .before .before .amounts-after .ensures) (c .before .all-pass .ensures), not-false (c .before .before .before .before .before .inputs-finite .result) (c .before .before .before .before .if1 .left), not-true (c .before .all-pass .result) (c .if2 .taken)) (refl, refl)
+
+lay-requires : tie.Need-lay-requires
+lay-requires c κs = omega (arith, ap length (c .before .before .before .before .amounts-after .ensures) ∙ tabulate-length _ _)
+
+returns-3 : tie.Need-returns-3
+returns-3 c = rw (applied-at _ _ _ _ _ (c .before .before .before .before .before .before .before .before .before .inputs-finite .ensures) (c .before .before .before .before .before .before .before .amounts-after .ensures) (c .before .before .before .before .before .all-pass .ensures), not-false (c .before .before .before .before .before .before .before .before .before .inputs-finite .result) (c .before .before .before .before .before .before .before .before .if1 .left), not-false (c .before .before .before .before .before .all-pass .result) (c .before .before .before .before .if2 .left)) (refl, c .before .before .lay .ensures)
+
+pub apply-spec : {M : Type 1} → statement M
+apply-spec =
+    tie.close
+    (tie.spec
+    (λ c κs. search needs) returns (λ c κs. search needs) (λ c. search needs) slice-aggregate-after (λ c κs. search needs)
+    returns-2 lay-requires (λ c. search needs) returns-3)

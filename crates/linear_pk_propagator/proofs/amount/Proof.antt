@@ -1,0 +1,37 @@
+-- `linear_pk_propagator::amount` meets its contract. The invariant: the sum of the first j pairs.
+use mathlib.Core.Path.{_≡_, refl}
+use borrow.Author.Needs.{needs}
+use native.Mathlib.Omega.{arith}
+use Prim.Native.Nat.{_≤_, _-_}
+use native.Mathlib.Nat.{le-antisymm}
+use native.Mathlib.Numerals.{add-one}
+use lib.Ieee.{ofBits, neg}
+use Rattle.matrix.specs.Matrix.{sumTo}
+use Rattle.linear_pk_propagator.specs.Amounts.{amountTo}
+use Rattle.linear_pk_propagator.proofs.amount.Statement.{statement}
+use Rattle.linear_pk_propagator.proofs.amount.Tie as tie
+
+abbrev Inv-loop : tie.InvT-loop
+Inv-loop p n amounts input duration i sum₀ j₀ sum j = (j ≤ n) × (sum ≡ amountTo p n amounts input duration i j)
+
+abbrev μ-loop : tie.MeasureT-loop
+μ-loop p n amounts input duration i sum₀ j₀ sum j = n - j
+
+loop-holds : tie.Need-loop-holds Inv-loop μ-loop
+unfolding sumTo amountTo ofBits neg
+loop-holds c = (omega arith, refl)
+
+loop-again : tie.Need-loop-again Inv-loop μ-loop
+unfolding sumTo amountTo
+loop-again c = (omega arith, rw (add-one, c .before .before .before .before .before .loop .inv .1))
+
+returns : tie.Need-returns Inv-loop μ-loop
+returns c = rw (le-antisymm (c .before .loop .inv .0) (c .loop-test .left)) at (c .before .loop .inv .1)
+
+pub amount-spec : {M : Type 1} → statement M
+amount-spec =
+    tie.close
+    (tie.spec
+    Inv-loop μ-loop loop-holds (λ c. search needs) (λ c. search needs) (λ c. search needs) (λ c. search needs) (λ c. search needs)
+    (λ c. search needs) (λ c. search needs) (λ c. search needs) (λ c. search needs) (λ c. search needs) (λ c. search needs)
+    (λ c. search needs) (λ c. search needs) (λ c. search needs) (λ c. search needs) loop-again returns)

@@ -1,0 +1,34 @@
+-- `linear_pk_propagator::amounts_after` meets its contract. The invariant: the first i are listed.
+use mathlib.Core.Path.{_≡_, refl}
+use borrow.Author.Needs.{needs}
+use native.Mathlib.Omega.{arith}
+use Prim.Native.Nat.{_≤_, _-_}
+use lib.Ieee.{ofBits}
+use Rattle.binary64.specs.Doubles.{plusZero}
+use Rattle.linear_pk_propagator.specs.Amounts.{amountTo}
+use Rattle.matrix.proofs.Filled.{fill, fillFrom, fill-more, part-filled}
+use Rattle.linear_pk_propagator.proofs.amounts_after.Statement.{statement}
+use Rattle.linear_pk_propagator.proofs.amounts_after.Tie as tie
+
+abbrev Inv-loop : tie.InvT-loop
+Inv-loop p n amounts input duration list₀ i₀ list i = (i ≤ n) × (list ≡ fill 4 i (λ i. amountTo p n amounts input duration i n) plusZero)
+
+abbrev μ-loop : tie.MeasureT-loop
+μ-loop p n amounts input duration list₀ i₀ list i = n - i
+
+loop-holds : tie.Need-loop-holds Inv-loop μ-loop
+unfolding fill fillFrom ofBits
+loop-holds c = (omega arith, refl)
+
+loop-again : tie.Need-loop-again Inv-loop μ-loop
+loop-again c = (omega arith, fill-more _ _ _ _ (c .before .before .loop .inv .1) (c .amount .ensures) (omega arith))
+
+returns : tie.Need-returns Inv-loop μ-loop
+returns c = part-filled _ _ _ _ _ (c .before .loop .inv .0) (c .loop-test .left) (c .before .before .before .before .pre .0) (c .before .loop .inv .1)
+
+pub amounts-after-spec : {M : Type 1} → statement M
+amounts-after-spec =
+    tie.close
+    (tie.spec
+    Inv-loop μ-loop loop-holds (λ c κs. search needs) (λ c. search needs) (λ c. search needs) (λ c. search needs)
+    (λ c. search needs) loop-again returns)

@@ -1,0 +1,36 @@
+-- `linear_pk_propagator::inputs_finite` meets its contract. The invariant: whether the first j are finite.
+use mathlib.Core.Path.{_≡_, refl}
+use borrow.Author.Needs.{needs}
+use native.Mathlib.Omega.{arith}
+use Prim.Native.Nat.{_≤_, _-_}
+use native.Mathlib.Nat.{le-antisymm}
+use native.Mathlib.Numerals.{add-one}
+use lib.Ieee.{binary64, mul}
+use lib.Ieee.Scale.{finite}
+use Rattle.matrix.specs.Matrix.{allTo, cell}
+use Rattle.linear_pk_propagator.proofs.inputs_finite.Statement.{statement}
+use Rattle.linear_pk_propagator.proofs.inputs_finite.Tie as tie
+
+abbrev Inv-loop : tie.InvT-loop
+Inv-loop input n duration ok₀ j₀ ok j = (j ≤ n) × (ok ≡ allTo (λ j. finite (mul binary64 (cell input j) duration)) j)
+
+abbrev μ-loop : tie.MeasureT-loop
+μ-loop input n duration ok₀ j₀ ok j = n - j
+
+loop-holds : tie.Need-loop-holds Inv-loop μ-loop
+unfolding allTo
+loop-holds c = (omega arith, refl)
+
+loop-again : tie.Need-loop-again Inv-loop μ-loop
+unfolding allTo
+loop-again c = (omega arith, rw (add-one, c .is-finite .ensures, c .before .before .before .loop .inv .1))
+
+returns : tie.Need-returns Inv-loop μ-loop
+returns c = rw (le-antisymm (c .before .loop .inv .0) (c .loop-test .left)) at (c .before .loop .inv .1)
+
+pub inputs-finite-spec : {M : Type 1} → statement M
+inputs-finite-spec =
+    tie.close
+    (tie.spec
+    Inv-loop μ-loop loop-holds (λ c. search needs) (λ c. search needs) (λ c κs. search needs) (λ c. search needs)
+    (λ c. search needs) loop-again returns)

@@ -1,0 +1,2 @@
+pub mod Propagator
+pub mod Amounts

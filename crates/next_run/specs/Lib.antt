@@ -1,2 +1,0 @@
-pub mod NextRun
-pub mod Solves

@@ -1,0 +1,19 @@
+-- `periodic_acceptance::lay` meets its contract.
+use mathlib.Core.Path.{sym}
+use borrow.Author.Needs.{needs}
+use native.Mathlib.Omega.{arith}
+use lib.Seq.{length-take-le}
+use Rattle.periodic_acceptance.proofs.lay.Statement.{statement}
+use Rattle.periodic_acceptance.proofs.lay.Tie as tie
+
+slice-aggregate-lay : tie.Need-slice-aggregate-lay
+slice-aggregate-lay c = sym (length-take-le _ (c .before .before .args .t2) (omega arith))
+
+lay-requires : tie.Need-lay-requires
+lay-requires c κs = omega (arith, length-take-le (c .before .before .before .args .n) (c .before .before .before .args .t2) (omega arith))
+
+pub lay-spec : {M : Type 1} → statement M
+lay-spec =
+    tie.close
+    (tie.spec
+    (λ c. search needs) slice-aggregate-lay lay-requires (λ c. search needs) (λ c. search needs))

@@ -1,0 +1,58 @@
+-- `periodic_preparation::prepare_periodic_steady_state` meets its contract.
+use mathlib.Core.Path.{sym, _∙_}
+use borrow.Author.Needs.{needs}
+use borrow.Author.Tests.{not-true, not-false}
+use native.Mathlib.Omega.{arith}
+use Rattle.events.specs.Packed.{packed}
+use Rattle.refusal.proofs.Numbers.{refusal-number}
+use Rattle.periodic_preparation.proofs.Ready.{tolerance-stops, fold-stops, prepare-stops, ready-got}
+use Rattle.periodic_preparation.proofs.prepare_periodic_steady_state.Statement.{statement}
+use Rattle.periodic_preparation.proofs.prepare_periodic_steady_state.Tie as tie
+
+returns : tie.Need-returns
+returns c =
+    let g = c .before .before .before .before .args in
+    let e = c .refused .ensures in (
+      rw (e .0) (tolerance-stops (g .n) (g .window) (g .samples .now) (packed (g .reals .now) (g .words .now) (g .count)) (g .tolerance)
+          (sym (c .before .before .tolerance-passes .ensures) ∙ not-true (c .before .before .tolerance-passes .result) (c .before .if1 .taken))),
+      omega (arith, e .1),
+    )
+
+returns-2 : tie.Need-returns-2
+returns-2 c =
+    let g = c .before .before .before .before .before .before .before .before .before .before .args in
+    let e = c .refused2 .ensures in (
+      rw (e .0) (fold-stops (g .n) (g .window) (g .samples .now) (packed (g .reals .now) (g .words .now) (g .count)) (g .tolerance)
+          (sym (c .before .before .before .before .before .before .before .before .tolerance-passes .ensures) ∙ not-false (c .before .before .before .before .before .before .before .before .tolerance-passes .result) (c .before .before .before .before .before .before .before .if1 .left))
+          (rw (c .before .before .reply .given .1) at (c .before .before .before .before .folded .ensures .0))),
+      omega (arith, e .1),
+    )
+
+returns-3 : tie.Need-returns-3
+returns-3 c =
+    let g = c .before .before .before .before .before .before .before .before .before .before .before .before .before .before .before .before .before .args in
+    let e = c .refused3 .ensures in (
+      rw (e .0) (prepare-stops (g .n) (g .window) (g .samples .now) (packed (g .reals .now) (g .words .now) (g .count)) (g .tolerance)
+          (sym (c .before .before .before .before .before .before .before .before .before .before .before .before .before .before .before .tolerance-passes .ensures) ∙ not-false (c .before .before .before .before .before .before .before .before .before .before .before .before .before .before .before .tolerance-passes .result) (c .before .before .before .before .before .before .before .before .before .before .before .before .before .before .if1 .left))
+          (rw (c .before .before .before .before .before .before .before .before .before .enum-told .given .1) at (c .before .before .before .before .before .before .before .before .before .before .before .folded .ensures .0)) (refusal-number (c .before .before .prepared2 .given .0 .0))
+          (rw (c .before .before .prepared2 .given .1, c .before .before .before .before .before .before .before .before .divided .ensures) at (c .before .before .before .before .prepared .ensures))),
+      omega (arith, e .1),
+    )
+
+returns-4 : tie.Need-returns-4
+returns-4 c =
+    let g = c .before .before .before .before .before .before .before .before .before .before .before .before .before .before .before .args in (
+      rw (c .before .before .before .before .before .before .before .enum-told .given .1) (ready-got (g .n) (g .window) (g .samples .now) (packed (g .reals .now) (g .words .now) (g .count)) (g .tolerance)
+          (sym (c .before .before .before .before .before .before .before .before .before .before .before .before .before .tolerance-passes .ensures) ∙ not-false (c .before .before .before .before .before .before .before .before .before .before .before .before .before .tolerance-passes .result) (c .before .before .before .before .before .before .before .before .before .before .before .before .if1 .left))
+          (rw (c .before .before .before .before .before .before .before .enum-told .given .1) at (c .before .before .before .before .before .before .before .before .before .folded .ensures .0))
+          (rw (c .enum-told2 .given .1, c .before .before .before .before .before .before .divided .ensures) at (c .before .before .prepared .ensures))),
+      c .before .before .before .before .before .before .before .before .before .folded .ensures .1 .1 .0,
+    )
+
+pub prepare-periodic-steady-state-spec : {M : Type 1} → statement M
+prepare-periodic-steady-state-spec =
+    tie.close
+    (tie.spec
+    (λ c κs. search needs) (λ c κs. search needs) returns (λ c κs. search needs) (λ c. search needs) (λ c κs. search needs)
+    (λ c. search needs) (λ c κs. search needs) (λ c. search needs) (λ c. search needs) (λ c κs. search needs) (λ c. search needs)
+    (λ c κs. search needs) (λ c. search needs) returns-2 returns-3 returns-4)

@@ -1,0 +1,57 @@
+-- `periodic_runs::columns` meets its contract. The invariant: the first j columns are stored.
+use mathlib.Core.Path.{_≡_}
+use borrow.Author.Needs.{needs}
+use native.Mathlib.Omega.{arith}
+use Prim.Native.Nat.{_≤_, _-_}
+use lib.ListN.{length, length-set}
+use Rattle.events.specs.Packed.{packed}
+use Rattle.simulation.specs.KernelRun.{propagatorOf}
+use Rattle.cycle.specs.Closed.{got, columnsTo, homogeneous}
+use Rattle.periodic_runs.specs.Columns.{columnsOf}
+use Rattle.periodic_runs.proofs.UnitRuns.{unit-front, columns-none, columns-more, columns-stop, columns-all}
+use Rattle.periodic_runs.proofs.columns.Statement.{statement}
+use Rattle.periodic_runs.proofs.columns.Tie as tie
+
+abbrev Inv-loop : tie.InvT-loop
+Inv-loop kernel n window reals words count columns₀ zeroed j₀ columns j =
+    (j ≤ n) × (length columns ≡ 4) × (columnsTo (propagatorOf kernel) n window (packed reals words count) j ≡ got (columnsOf n columns j))
+
+abbrev μ-loop : tie.MeasureT-loop
+μ-loop kernel n window reals words count columns₀ zeroed j₀ columns j = n - j
+
+loop-holds : tie.Need-loop-holds Inv-loop μ-loop
+loop-holds c = (omega arith, c .before .pre .2, columns-none _ _ _ _ (c .before .args .columns .now))
+
+unit-requires : tie.Need-unit-requires Inv-loop μ-loop
+unit-requires c κs = omega (arith, c .before .before .before .pre .0 .states)
+
+last-of-requires : tie.Need-last-of-requires Inv-loop μ-loop
+last-of-requires c κs = rw (c .before .before .before .before .homogeneous .ensures (c .before .before .before .before .before .args .words .now)) (c .before .before .before .before .before .pre .0)
+
+returns : tie.Need-returns Inv-loop μ-loop
+returns c =
+    let g = c .before .before .before .before .before .before .before .before .before .args in
+    let l = c .before .before .before .before .before .before .loop-test .taken in
+    columns-stop (propagatorOf (g .kernel)) (g .n) (g .window) (packed (g .reals .now) (g .words .now) (g .count)) (c .before .before .before .before .before .before .before .loop .columns) (c .before .before .before .before .before .before .before .loop .j) (c .before .before .before .before .before .before .before .loop .inv .2) l
+    (rw (c .before .before .before .before .before .before .before .before .homogeneous .ensures (g .words .now), c .before .before .before .before .before .unit .ensures, unit-front (g .n) (c .before .before .before .before .before .before .before .loop .j) (c .before .before .before .before .before .before .before .before .before .pre .0 .states) l, c .before .reply .given .1) at (c .before .before .before .last-of .ensures))
+
+loop-again : tie.Need-loop-again Inv-loop μ-loop
+loop-again c =
+    let g = c .before .before .before .before .before .before .before .before .before .args in
+    let l = c .before .before .before .before .before .before .loop-test .taken in (
+      omega arith,
+      simp length-set (c .before .before .before .before .before .before .before .loop .inv .1),
+      columns-more (propagatorOf (g .kernel)) (g .n) (g .window) (packed (g .reals .now) (g .words .now) (g .count)) (c .before .before .before .before .before .before .before .loop .columns) (c .before .before .before .before .before .before .before .loop .j) (c .before .before .before .before .before .before .before .loop .inv .2) (c .before .before .before .last-of .result .amounts)
+          (omega (arith, c .before .before .before .before .before .before .before .before .before .pre .0 .states))
+          (rw (c .before .before .before .before .before .before .before .before .homogeneous .ensures (g .words .now), c .before .before .before .before .before .unit .ensures, unit-front (g .n) (c .before .before .before .before .before .before .before .loop .j) (c .before .before .before .before .before .before .before .before .before .pre .0 .states) l, c .before .enum-told .given .1) at (c .before .before .before .last-of .ensures)),
+    )
+
+returns-2 : tie.Need-returns-2 Inv-loop μ-loop
+returns-2 c = columns-all _ _ _ _ (c .before .loop .columns) _ (c .before .loop .inv .2) (c .before .loop .inv .0) (c .loop-test .left)
+
+pub columns-spec : {M : Type 1} → statement M
+columns-spec =
+    tie.close
+    (tie.spec
+    Inv-loop μ-loop (λ c κs. search needs) loop-holds unit-requires last-of-requires (λ c. search needs) returns
+    (λ c. search needs) (λ c. search needs) (λ c. search needs) (λ c. search needs) (λ c. search needs) loop-again returns-2)

@@ -1,0 +1,13 @@
+-- `preparation_validation::event_passes` meets its contract.
+use borrow.Author.Needs.{needs}
+use Rattle.preparation_validation.proofs.event_passes.Statement.{statement}
+use Rattle.preparation_validation.proofs.event_passes.Tie as tie
+
+returns : tie.Need-returns
+returns c = rw (c .before .before .within .ensures, c .before .before .before .time-of .ensures, c .before .target-of .ensures, c .values-pass .ensures, c .before .before .before .before .event-at .ensures)
+
+pub event-passes-spec : {M : Type 1} → statement M
+event-passes-spec =
+    tie.close
+    (tie.spec
+    (λ c κs. search needs) (λ c κs. search needs) (λ c κs. search needs) (λ c κs. search needs) (λ c κs. search needs) returns)

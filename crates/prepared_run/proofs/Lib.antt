@@ -1,2 +1,0 @@
-pub mod KernelRuns
-pub mod Whole

@@ -1,0 +1,4 @@
+pub mod States
+pub mod Lengths
+pub mod Lines
+pub mod Examples

@@ -1,0 +1,31 @@
+-- `printout_cycle::print_cycle` meets its contract.
+use native.Mathlib.Omega.{arith}
+use Rattle.printout_cycle.proofs.Lengths.{lines-length}
+use Rattle.printout_cycle.proofs.Lines.{verdict-length, too-long, cycle-printed}
+use borrow.Author.Needs.{needs}
+use Rattle.printout_cycle.proofs.print_cycle.Statement.{statement}
+use Rattle.printout_cycle.proofs.print_cycle.Tie as tie
+
+returns : tie.Need-returns
+returns c =
+    let s = c .before .before .before .before .before .before .before in
+    let g = s .args in
+    too-long (g .tolerance) (g .n) (g .starts .now) (g .ends .now) (g .residual .now) (s .pre .0) (s .pre .1) (c .before .before .closes .ensures) (c .before .lines-length .ensures) (g .out .now) (c .if1 .taken)
+
+put-verdict-requires : tie.Need-put-verdict-requires
+put-verdict-requires c κs =
+    let s = c .before .before .before .before .before .before .before .before .before .before .before .before in
+    let g = s .args in
+    omega (arith, lines-length (g .tolerance) (g .n) (g .starts .now) (g .ends .now) (s .pre .0) (s .pre .1), verdict-length (c .before .before .before .before .before .before .before .closes .result), c .before .before .before .before .before .before .lines-length .ensures, c .before .before .before .before .before .if1 .left)
+
+returns-2 : tie.Need-returns-2
+returns-2 c =
+    let s = c .before .before .before .before .before .before .before .before .before .before .before .before .before .before .before in
+    let g = s .args in
+    cycle-printed (g .tolerance) (g .n) (g .starts .now) (g .ends .now) (g .residual .now) (s .pre .0) (s .pre .1) (c .before .before .before .before .before .before .before .before .before .before .closes .ensures) (c .before .before .before .before .before .before .before .before .before .lines-length .ensures) (g .out .now) (c .before .before .before .before .before .before .before .before .if1 .left) (c .before .before .before .before .before .before .put-lines .ensures) (c .before .before .put-verdict .ensures)
+
+pub print-cycle-spec : {M : Type 1} → statement M
+print-cycle-spec =
+    tie.close
+    (tie.spec
+    (λ c κs. search needs) (λ c κs. search needs) returns (λ c κs. search needs) put-verdict-requires (λ c. search needs) returns-2)

@@ -1,0 +1,16 @@
+-- `printout_cycle::state_closes` meets its contract.
+use lib.Ieee.{ofBits}
+use Rattle.printout_cycle.specs.Closes.{stateCloses}
+use borrow.Author.Needs.{needs}
+use Rattle.printout_cycle.proofs.state_closes.Statement.{statement}
+use Rattle.printout_cycle.proofs.state_closes.Tie as tie
+
+returns : tie.Need-returns
+unfolding stateCloses ofBits
+returns c = rw (c .before .before .is-finite .ensures, c .before .before .before .before .scale .ensures, c .before .before .before .scaled .ensures, c .before .bits .ensures, c .bits2 .ensures)
+
+pub state-closes-spec : {M : Type 1} → statement M
+state-closes-spec =
+    tie.close
+    (tie.spec
+    (λ c κs. search needs) (λ c κs. search needs) (λ c κs. search needs) (λ c κs. search needs) (λ c κs. search needs) returns)

@@ -1,0 +1,3 @@
+pub mod Closes
+pub mod Lines
+pub mod CyclePrintout

@@ -1,0 +1,48 @@
+-- `printout_lines::rows_length` meets its contract. The invariant: the length of the first k lines.
+use mathlib.Core.Path.{_≡_, refl}
+use native.Mathlib.Omega.{arith}
+use native.Mathlib.Nat.{le-antisymm}
+use native.Mathlib.Numerals.{add-one}
+use Prim.Native.Nat.{_-_, _≤_}
+use lib.ListN.{getD}
+use Rattle.printout_rows.specs.Rows.{rowsLength}
+use Rattle.printout_lines.proofs.Most.{side-most, rows-most}
+use borrow.Author.Needs.{needs}
+use Rattle.printout_lines.proofs.rows_length.Statement.{statement}
+use Rattle.printout_lines.proofs.rows_length.Tie as tie
+
+abbrev Inv-loop : tie.InvT-loop
+Inv-loop rows n sides sum₀ k₀ sum k = (k ≤ rows) × (sum ≡ rowsLength n k sides)
+
+abbrev μ-loop : tie.MeasureT-loop
+μ-loop rows n sides sum₀ k₀ sum k = rows - k
+
+loop-holds : tie.Need-loop-holds Inv-loop μ-loop
+unfolding rowsLength
+loop-holds c = (omega arith, refl)
+
+add-sum : tie.Need-add-sum Inv-loop μ-loop
+add-sum c = omega (arith, side-most (getD (c .before .before .before .before .before .args .sides .now) (c .before .before .before .loop .k) 0))
+
+add-sum-2 : tie.Need-add-sum-2 Inv-loop μ-loop
+add-sum-2 c = omega (arith, side-most (getD (c .before .before .before .before .before .args .sides .now) (c .before .before .before .loop .k) 0))
+
+add-sum-3 : tie.Need-add-sum-3 Inv-loop μ-loop
+add-sum-3 c =
+    let g = c .before .before .before .before .before .args in
+    let l = c .before .before .before .loop in
+    omega (arith, side-most (getD (g .sides .now) (l .k) 0), rows-most (g .n) (g .sides .now) (l .k) (c .before .before .before .before .before .pre .1))
+
+loop-again : tie.Need-loop-again Inv-loop μ-loop
+unfolding rowsLength
+loop-again c = (omega arith, rw (add-one, c .side-length .ensures, c .before .before .before .loop .inv .1))
+
+returns : tie.Need-returns Inv-loop μ-loop
+returns c = rw (le-antisymm (c .before .loop .inv .0) (c .loop-test .left)) at (c .before .loop .inv .1)
+
+pub rows-length-spec : {M : Type 1} → statement M
+rows-length-spec =
+    tie.close
+    (tie.spec
+    Inv-loop μ-loop loop-holds (λ c. search needs) (λ c κs. search needs) add-sum (λ c. search needs) add-sum-2 add-sum-3
+    (λ c. search needs) (λ c. search needs) loop-again returns)

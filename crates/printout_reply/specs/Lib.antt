@@ -1,2 +1,0 @@
-pub mod Printouts
-pub mod Replies

@@ -1,0 +1,27 @@
+-- `printout_rows::put_side` meets its contract.
+use borrow.Author.Tests.{eq-eqb, ne-eqb}
+use Rattle.printout_rows.specs.Row.{sideText}
+use borrow.Author.Needs.{needs}
+use Rattle.printout_rows.proofs.put_side.Statement.{statement}
+use Rattle.printout_rows.proofs.put_side.Tie as tie
+
+put-text-requires : tie.Need-put-text-requires
+put-text-requires c κs = rw (eq-eqb _ _ (c .before .before .if1 .taken)) at (c .before .before .before .before .pre)
+
+put-text-requires-2 : tie.Need-put-text-requires-2
+put-text-requires-2 c κs = rw (ne-eqb _ _ (c .before .before .if1 .left)) at (c .before .before .before .before .pre)
+
+returns : tie.Need-returns
+unfolding sideText
+returns c = rw (eq-eqb _ _ (c .before .before .before .before .before .if1 .taken)) (c .before .before .put-text .ensures)
+
+returns-2 : tie.Need-returns-2
+unfolding sideText
+returns-2 c = rw (ne-eqb _ _ (c .before .before .before .before .before .if1 .left)) (c .before .before .put-text2 .ensures)
+
+pub put-side-spec : {M : Type 1} → statement M
+put-side-spec =
+    tie.close
+    (tie.spec
+    (λ c. search needs) put-text-requires (λ c. search needs) put-text-requires-2 (λ c. search needs) returns (λ c. search needs)
+    returns-2)

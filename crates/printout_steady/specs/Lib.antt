@@ -1,0 +1,2 @@
+pub mod SteadyPrintout
+pub mod SteadyReplies

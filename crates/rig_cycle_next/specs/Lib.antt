@@ -1,0 +1,3 @@
+pub mod NextRun
+pub mod Solves
+pub mod NextPrintout

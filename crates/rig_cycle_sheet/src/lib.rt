@@ -1,0 +1,181 @@
+// One more cycle from the amounts of a sheet's closed one: its bytes in, the bytes of its printout out.
+use linear_pk::LinearPk;
+use periodic_acceptance::SteadyReply;
+use periodic_inputs::side_cells;
+use periodic_inputs::time_cells;
+use periodic_inputs::value_cells;
+use printout::PrintReply;
+use printout_steady::print_steady;
+use refusal::Reply;
+use rig_cycle_next::print_next;
+use rig_run_sheet::sample_cells;
+use rig_steady_cycle::solve_bodies;
+ghost use mathlib.Core.Path.{_≡_};
+ghost use Prim.Native.Nat.{_/_, _≤_};
+ghost use lib.ListN.{length};
+ghost use Rattle.refusal.specs.Numbers.{replyNumber};
+ghost use Rattle.refusal.specs.Result.{done};
+ghost use Rattle.linear_pk.specs.LinearPk.{sound, stateCount};
+ghost use Rattle.periodic_acceptance.specs.Entry.{steadyReply};
+ghost use Rattle.sheet.specs.Sheet.{wordsOf, modelFits};
+ghost use Rattle.printout.specs.Replies.{Prints};
+ghost use Rattle.rig_cycle_next.specs.NextRun.{nextWith};
+ghost use Rattle.rig_cycle_next.specs.NextPrintout.{cyclePrintout};
+ghost use mathlib.Core.Bool.{true};
+ghost use mathlib.Core.List.{[]};
+ghost use Rattle.printout.specs.Cells.{printed, printedLength};
+ghost use Rattle.printout.specs.Printouts.{numberInto};
+ghost use Rattle.rig_cycle_sheet.specs.CycleSheet.{nextSheet, cyclePrintoutOfBytes};
+
+// The most states of a kernel.
+const STATES: usize = 4;
+
+// Whether a cycle is solved, or its refusal, and the time of that.
+struct Refused {
+    reply: Reply,
+    time: f64,
+}
+
+fn refusal_of(reply: SteadyReply) -> Refused
+    ensures { λ r. ⌜ (replyNumber (r .reply) ≡ steadyReply reply .number) × (r .time ≡ steadyReply reply .time) ⌝ }
+{
+    match reply {
+        SteadyReply::Refused { refusal, time } => Refused {
+            reply: Reply::Refused(refusal),
+            time,
+        },
+        SteadyReply::Solved { maximum: _ } => Refused {
+            reply: Reply::Done,
+            time: 0.0,
+        },
+    }
+}
+
+// The printout of a kernel and the other bodies: the refusal of their closed cycle, or one cycle more.
+pub fn next_bodies(
+    kernel: LinearPk,
+    window: &[u8],
+    samples: &[u8],
+    events: &[u8],
+    readings: &mut [f64],
+    amounts: &mut [f64],
+    residual: &mut [f64],
+    times: &mut [f64],
+    sides: &mut [u8],
+    values: &mut [f64],
+    out: &mut [u8],
+) -> PrintReply
+    requires { ⌜ (sound kernel ≡ done kernel) × (72 ≤ length (now window)) × (length (now events) / 8 / 6 ≤ 64) × (length (now samples) / 8 ≤ 256) × (length (now readings) ≡ length (now samples) / 8)
+        × (length (now amounts) ≡ stateCount kernel) × (length (now residual) ≡ stateCount kernel)
+        × (770 ≤ length (now times)) × (770 ≤ length (now sides)) × (3080 ≤ length (now values)) ⌝ }
+    ensures { λ r. ⌜ Prints (cyclePrintout (nextWith kernel (wordsOf (now (window .entry))) (wordsOf (now (samples .entry))) (wordsOf (now (events .entry))))) (now (out .entry)) r (now (out .exit)) ⌝ }
+{
+    let refused = refusal_of(solve_bodies(
+        kernel,
+        window,
+        samples,
+        events,
+        readings,
+        amounts,
+        residual,
+    ));
+    let reply = refused.reply;
+    let number = refusal::number(reply);
+    if number == 0 {
+        return print_next(
+            kernel,
+            window,
+            samples,
+            events,
+            readings,
+            amounts,
+            residual,
+            times,
+            sides,
+            values,
+            out,
+        );
+    }
+    let length = print_steady(number, refused.time, 0, 0.0, amounts, residual, out);
+    printout::reply_of(reply, length)
+}
+
+// Cells for the cycle of a kernel and the other bodies.
+fn print_kernel(
+    kernel: LinearPk,
+    window: &[u8],
+    samples: &[u8],
+    events: &[u8],
+    out: &mut [u8],
+) -> PrintReply
+    requires { ⌜ (sound kernel ≡ done kernel) × (72 ≤ length (now window)) × (length (now events) / 8 / 6 ≤ 64) × (length (now samples) / 8 ≤ 256) ⌝ }
+    ensures { λ r. ⌜ Prints (cyclePrintout (nextWith kernel (wordsOf (now (window .entry))) (wordsOf (now (samples .entry))) (wordsOf (now (events .entry))))) (now (out .entry)) r (now (out .exit)) ⌝ }
+{
+    let n = kernel.state_count();
+    let count = samples.len() / 8;
+    let mut readings = sample_cells();
+    let mut amounts = [0.0f64; STATES];
+    let mut residual = [0.0f64; STATES];
+    let mut times = time_cells();
+    let mut sides = side_cells();
+    let mut values = value_cells();
+    next_bodies(
+        kernel,
+        window,
+        samples,
+        events,
+        &mut readings[..count],
+        &mut amounts[..n],
+        &mut residual[..n],
+        &mut times,
+        &mut sides,
+        &mut values,
+        out,
+    )
+}
+
+// The printout of a sheet's bodies.
+fn print_sheet(
+    model: &[u8],
+    window: &[u8],
+    samples: &[u8],
+    events: &[u8],
+    out: &mut [u8],
+) -> PrintReply
+    requires { ⌜ (modelFits (wordsOf (now model)) ≡ true) × (72 ≤ length (now window)) × (length (now events) / 8 / 6 ≤ 64) × (length (now samples) / 8 ≤ 256) ⌝ }
+    ensures { λ r. ⌜ Prints (cyclePrintout (nextSheet (record { model = wordsOf (now (model .entry)); window = wordsOf (now (window .entry)); amounts = []; samples = wordsOf (now (samples .entry)); events = wordsOf (now (events .entry)) })))
+        (now (out .entry)) r (now (out .exit)) ⌝ }
+{
+    let made = sheet_kernel::kernel_of(model);
+    let reply = made.reply;
+    match reply {
+        Reply::Refused(refusal) => { printout::print_refusal(refusal, out) }
+        Reply::Done => {
+            let kernel = made.kernel;
+            print_kernel(kernel, window, samples, events, out)
+        }
+    }
+}
+
+// The printout of a sheet's next cycle, from the front of out. Where it has no room there nothing is written, and an answer is 4.
+pub fn cycle_sheet(bytes: &[u8], out: &mut [u8]) -> PrintReply
+    ensures { λ r. ⌜ replyNumber (r .reply) ≡ numberInto (now (out .entry)) (cyclePrintoutOfBytes (now (bytes .entry))) ⌝ }
+    ensures { λ r. ⌜ r .length ≡ printedLength (cyclePrintoutOfBytes (now (bytes .entry)) .text) (now (out .entry)) ⌝ }
+    ensures { λ r. ⌜ now (out .exit) ≡ printed (cyclePrintoutOfBytes (now (bytes .entry)) .text) (now (out .entry)) ⌝ }
+{
+    let read = sheet::read_sheet(bytes);
+    let reply = read.reply;
+    match reply {
+        Reply::Refused(unread) => printout::print_refusal(unread, out),
+        Reply::Done => {
+            let places = read.places;
+            print_sheet(
+                sheet::body(bytes, places.model, places.window),
+                sheet::body(bytes, places.window, places.amounts),
+                sheet::body(bytes, places.samples, places.events),
+                sheet::body(bytes, places.events, places.end),
+                out,
+            )
+        }
+    }
+}

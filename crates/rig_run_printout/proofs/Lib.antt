@@ -1,0 +1,4 @@
+pub mod Lines
+pub mod Runs
+pub mod Sheets
+pub mod Most

@@ -1,0 +1,2 @@
+pub mod RunPrintout
+pub mod Rig

@@ -1,0 +1,189 @@
+// The run of a sheet: its bytes in, the bytes of its printout out.
+use linear_pk::LinearPk;
+use printout::PrintReply;
+use printout::print_refusal;
+use printout::reply_of;
+use refusal::Reply;
+use rig_run_sheet::AMOUNTS;
+use rig_run_sheet::known;
+use rig_run_sheet::sample_cells;
+use rig_run_sheet::side_cells;
+use rig_run_sheet::simulate_bodies;
+use rig_run_sheet::time_cells;
+use rig_run_sheet::value_cells;
+use sheet_events::ordered;
+use simulation_report::RunReply;
+ghost use mathlib.Core.Path.{_≡_};
+ghost use mathlib.Core.Bool.{cond, true};
+ghost use Prim.Native.Nat.{_*_, _/_, _≤_};
+ghost use lib.Dec.{leb};
+ghost use lib.ListN.{length};
+ghost use Rattle.refusal.specs.Numbers.{replyNumber};
+ghost use Rattle.linear_pk.specs.LinearPk.{stateCount};
+ghost use Rattle.simulation_report.specs.Replies.{runReply};
+ghost use Rattle.events_layout.specs.Layout.{eventsOf};
+ghost use Rattle.sheet.specs.Sheet.{wordsOf, modelFits};
+ghost use Rattle.printout.specs.Replies.{Prints};
+ghost use Rattle.sheet_events.specs.OrderedDoses.{ordered as orderedOf};
+ghost use Rattle.rig_run_sheet.specs.SheetRun.{runWith, reckonedOf};
+ghost use Rattle.rig_run_printout.specs.RunPrintout.{runPrintout};
+ghost use Rattle.refusal.specs.Result.{done};
+ghost use Rattle.printout.specs.Cells.{printed, printedLength};
+ghost use Rattle.printout.specs.Printouts.{numberInto};
+ghost use Rattle.rig_run_printout.specs.Rig.{printoutOf, printoutOfBytes};
+
+// Bytes of an event.
+const EVENT: usize = 48;
+
+// Whether a run reached its end, or its refusal.
+fn answer_of(run: RunReply) -> Reply
+    ensures { λ r. ⌜ replyNumber r ≡ runReply run .number ⌝ }
+{
+    match run {
+        RunReply::Refused(refusal) => Reply::Refused(refusal),
+        RunReply::Stopped {
+            refusal,
+            time: _,
+            advances: _,
+        } => Reply::Refused(refusal),
+        RunReply::Reached {
+            rows: _,
+            advances: _,
+        } => Reply::Done,
+    }
+}
+
+// The printout of that run.
+fn print_bodies(
+    kernel: LinearPk,
+    window: &[u8],
+    amounts: &[u8],
+    samples: &[u8],
+    events: &[u8],
+    initial: &mut [f64],
+    readings: &mut [f64],
+    times: &mut [f64],
+    sides: &mut [u8],
+    values: &mut [f64],
+    out: &mut [u8],
+) -> PrintReply
+    requires { ⌜ (72 ≤ length (now window)) × (length (now events) / 8 / 6 ≤ 64) × (length (now samples) / 8 ≤ 256)
+        × (length (now initial) ≡ cond (leb (length (now amounts) / 8) 5) (length (now amounts) / 8) 5) × (length (now readings) ≡ length (now samples) / 8)
+        × (length (now times) ≡ reckonedOf (wordsOf (now samples)) (wordsOf (now events))) × (length (now sides) ≡ reckonedOf (wordsOf (now samples)) (wordsOf (now events)))
+        × (length (now values) ≡ reckonedOf (wordsOf (now samples)) (wordsOf (now events)) * stateCount kernel) ⌝ }
+    ensures { λ r. ⌜ Prints (runPrintout (orderedOf (eventsOf (wordsOf (now (events .entry)))))
+        (runWith kernel (wordsOf (now (window .entry))) (wordsOf (now (amounts .entry))) (wordsOf (now (samples .entry))) (wordsOf (now (events .entry))))) (now (out .entry)) r (now (out .exit)) ⌝ }
+{
+    let run = simulate_bodies(
+        kernel,
+        window,
+        amounts,
+        samples,
+        events,
+        initial,
+        readings,
+        times,
+        sides,
+        values,
+    );
+    let report = simulation_report::report_of(run);
+    let n = kernel.state_count();
+    let sum = ordered(events);
+    let length = printout::print_run(
+        report.number,
+        report.time,
+        report.rows,
+        n,
+        sum,
+        times,
+        sides,
+        values,
+        out,
+    );
+    reply_of(answer_of(run), length)
+}
+
+// Cells for the run of a kernel and the other bodies.
+pub fn print_kernel(
+    kernel: LinearPk,
+    window: &[u8],
+    amounts: &[u8],
+    samples: &[u8],
+    events: &[u8],
+    out: &mut [u8],
+) -> PrintReply
+    requires { ⌜ (72 ≤ length (now window)) × (length (now events) / 8 / 6 ≤ 64) × (length (now samples) / 8 ≤ 256) ⌝ }
+    ensures { λ r. ⌜ Prints (runPrintout (orderedOf (eventsOf (wordsOf (now (events .entry)))))
+        (runWith kernel (wordsOf (now (window .entry))) (wordsOf (now (amounts .entry))) (wordsOf (now (samples .entry))) (wordsOf (now (events .entry))))) (now (out .entry)) r (now (out .exit)) ⌝ }
+{
+    let first = known(amounts.len() / 8);
+    let count = samples.len() / 8;
+    let rows = 4 * (events.len() / EVENT) + count + 2;
+    let cells = rows * kernel.state_count();
+    let mut initial = [0.0f64; AMOUNTS];
+    let mut readings = sample_cells();
+    let mut times = time_cells();
+    let mut sides = side_cells();
+    let mut values = value_cells();
+    print_bodies(
+        kernel,
+        window,
+        amounts,
+        samples,
+        events,
+        &mut initial[..first],
+        &mut readings[..count],
+        &mut times[..rows],
+        &mut sides[..rows],
+        &mut values[..cells],
+        out,
+    )
+}
+
+// The printout of a sheet's bodies.
+fn print_sheet(
+    model: &[u8],
+    window: &[u8],
+    amounts: &[u8],
+    samples: &[u8],
+    events: &[u8],
+    out: &mut [u8],
+) -> PrintReply
+    requires { ⌜ (modelFits (wordsOf (now model)) ≡ true) × (72 ≤ length (now window)) × (length (now events) / 8 / 6 ≤ 64) × (length (now samples) / 8 ≤ 256) ⌝ }
+    ensures { λ r. ⌜ Prints (printoutOf (done (record { model = wordsOf (now (model .entry)); window = wordsOf (now (window .entry)); amounts = wordsOf (now (amounts .entry)); samples = wordsOf (now (samples .entry)); events = wordsOf (now (events .entry)) })))
+        (now (out .entry)) r (now (out .exit)) ⌝ }
+{
+    let made = sheet_kernel::kernel_of(model);
+    let reply = made.reply;
+    match reply {
+        Reply::Refused(refusal) => print_refusal(refusal, out),
+        Reply::Done => {
+            let kernel = made.kernel;
+            print_kernel(kernel, window, amounts, samples, events, out)
+        }
+    }
+}
+
+// The printout of a sheet, from the front of out. Where it has no room there nothing is written, and an answer is 4.
+pub fn run_sheet(bytes: &[u8], out: &mut [u8]) -> PrintReply
+    ensures { λ r. ⌜ replyNumber (r .reply) ≡ numberInto (now (out .entry)) (printoutOfBytes (now (bytes .entry))) ⌝ }
+    ensures { λ r. ⌜ r .length ≡ printedLength (printoutOfBytes (now (bytes .entry)) .text) (now (out .entry)) ⌝ }
+    ensures { λ r. ⌜ now (out .exit) ≡ printed (printoutOfBytes (now (bytes .entry)) .text) (now (out .entry)) ⌝ }
+{
+    let read = sheet::read_sheet(bytes);
+    let reply = read.reply;
+    match reply {
+        Reply::Refused(unread) => print_refusal(unread, out),
+        Reply::Done => {
+            let places = read.places;
+            print_sheet(
+                sheet::body(bytes, places.model, places.window),
+                sheet::body(bytes, places.window, places.amounts),
+                sheet::body(bytes, places.amounts, places.samples),
+                sheet::body(bytes, places.samples, places.events),
+                sheet::body(bytes, places.events, places.end),
+                out,
+            )
+        }
+    }
+}

@@ -1,0 +1,3 @@
+pub mod Entry
+pub mod Kept
+pub mod Slices

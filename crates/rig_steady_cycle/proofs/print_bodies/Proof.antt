@@ -1,0 +1,33 @@
+-- `rig_steady_cycle::print_bodies` meets its contract.
+use native.Mathlib.Omega.{arith}
+use Rattle.sheet.specs.Sheet.{wordsOf}
+use Rattle.printout.proofs.Replies.{prints-same}
+use Rattle.rig_steady_cycle.specs.SheetCycle.{steadyWith}
+use Rattle.rig_steady_cycle.proofs.Kept.{steady-kept}
+use Rattle.rig_steady_cycle.proofs.Slices.{told-printout}
+use Rattle.linear_pk.specs.LinearPk.{stateCount}
+use borrow.Author.Needs.{needs}
+use Rattle.rig_steady_cycle.proofs.print_bodies.Statement.{statement}
+use Rattle.rig_steady_cycle.proofs.print_bodies.Tie as tie
+
+print-reply-requires : tie.Need-print-reply-requires
+print-reply-requires c κs =
+    let s = c .before .before .before .before .before .before .before .before .before .before .before .before .before .before .before .before .before .before .before .before .before in
+    let n = c .before .before .before .before .before .before .before .before .before .before .before .before .before .state-count .ensures in (
+      omega (arith, n .0, s .pre .5, c .before .before .before .before .before .before .amounts .given),
+      omega (arith, n .0, s .pre .6, c .before .before .before .before .residual .given),
+      n .1,
+    )
+
+returns : tie.Need-returns
+returns c =
+    let s = c .before .before .before .before .before .before .before .before .before .before .before .before .before .before .before .before .before .before .before .before .before .before .before .before in
+    let g = s .args in
+    let o = steadyWith (g .kernel) (wordsOf (g .window .now)) (wordsOf (g .samples .now)) (wordsOf (g .events .now)) in
+    prints-same (told-printout (stateCount (g .kernel)) o (steady-kept (g .kernel) (wordsOf (g .window .now)) (wordsOf (g .samples .now)) (wordsOf (g .events .now)) (s .pre .0)) (c .before .before .before .before .before .before .before .before .before .before .before .before .solve-bodies .ensures) (c .before .before .before .before .before .before .before .before .before .before .before .before .before .before .before .before .state-count .ensures .0)) (c .before .before .print-reply .ensures)
+
+pub print-bodies-spec : {M : Type 1} → statement M
+print-bodies-spec =
+    tie.close
+    (tie.spec
+    (λ c κs. search needs) (λ c κs. search needs) print-reply-requires (λ c. search needs) (λ c. search needs) (λ c. search needs) (λ c. search needs) returns)

@@ -1,0 +1,61 @@
+-- `rows_interval::on_interval` meets its contract.
+use mathlib.Core.Path.{sym, _∙_}
+use borrow.Author.Needs.{needs}
+use native.Mathlib.Omega.{arith}
+use lib.ListN.{take}
+use lib.Seq.{length-take-le}
+use lib.Ieee.{ofBits}
+use borrow.Author.Tests.{not-true, not-false}
+use Rattle.rows.specs.Written.{cells}
+use Rattle.rows.specs.Told.{kernelAdvance}
+use Rattle.rows.proofs.Parts.{ran-same}
+use Rattle.rows_interval.proofs.Interval.{interval-refused, interval-fits, interval-stops, interval-few, interval-arrives}
+use Rattle.rows_interval.proofs.on_interval.Statement.{statement}
+use Rattle.rows_interval.proofs.on_interval.Tie as tie
+
+array-share-prefix-rates : tie.Need-array-share-prefix-rates
+array-share-prefix-rates c = omega (arith, c .before .before .before .before .pre .states)
+
+slice-aggregate-summed : tie.Need-slice-aggregate-summed
+slice-aggregate-summed c = sym (length-take-le _ (c .before .before .before .before .before .args .t4) (omega (arith, c .before .before .before .before .before .pre .states)))
+
+returns : tie.Need-returns
+unfolding ofBits
+returns c = let g = c .before .before .before .before .before .before .before .before .args in interval-refused (kernelAdvance (g .kernel) (g .n)) (g .n) (g .start) (g .t) (take (g .n) (g .t4)) (g .u) (g .samples .now) (cells (g .times .now) (g .sides .now) (g .values .now)) (sym (c .before .before .all-finite .ensures) ∙ not-true (c .before .before .all-finite .result) (c .before .if1 .taken))
+
+read-all-requires : tie.Need-read-all-requires
+read-all-requires c κs = let g = c .before .before .before .before .before .before .before .before .before .before .args in interval-fits (kernelAdvance (g .kernel) (g .n)) (g .n) (g .start) (g .t) (take (g .n) (g .t4)) (g .u) (g .samples .now) (cells (g .times .now) (g .sides .now) (g .values .now)) (sym (c .before .before .before .before .all-finite .ensures) ∙ not-false (c .before .before .before .before .all-finite .result) (c .before .before .before .if1 .left)) (c .before .before .before .before .before .before .before .before .before .before .pre)
+
+same-length : tie.Need-same-length
+same-length c = ran-same (c .before .before .before .before .before .before .before .before .read-all .ensures) .times
+
+same-length-2 : tie.Need-same-length-2
+same-length-2 c = ran-same (c .before .before .before .before .before .before .before .before .read-all .ensures) .sides
+
+same-length-3 : tie.Need-same-length-3
+same-length-3 c = ran-same (c .before .before .before .before .before .before .before .before .read-all .ensures) .values
+
+returns-2 : tie.Need-returns-2
+returns-2 c = let g = c .before .before .before .before .before .before .before .before .before .before .before .before .before .before .before .before .before .before .before .args in interval-stops (kernelAdvance (g .kernel) (g .n)) (g .n) (g .start) (g .t) (take (g .n) (g .t4)) (g .u) (g .samples .now) (cells (g .times .now) (g .sides .now) (g .values .now)) (sym (c .before .before .before .before .before .before .before .before .before .before .before .before .before .all-finite .ensures) ∙ not-false (c .before .before .before .before .before .before .before .before .before .before .before .before .before .all-finite .result) (c .before .before .before .before .before .before .before .before .before .before .before .before .if1 .left)) (c .before .before .before .before .before .before .before .before .read-all .ensures) (sym (c .before .stopped .ensures) ∙ c .if2 .taken)
+
+arrive-requires : tie.Need-arrive-requires
+arrive-requires c κs = let g = c .before .before .before .before .before .before .before .before .before .before .before .before .before .before .before .before .before .before .before .args in (c .before .before .before .before .before .before .before .before .before .before .before .before .before .before .before .before .before .before .before .pre .states, interval-few (kernelAdvance (g .kernel) (g .n)) (g .n) (g .start) (g .t) (take (g .n) (g .t4)) (g .u) (g .samples .now) (cells (g .times .now) (g .sides .now) (g .values .now)) (sym (c .before .before .before .before .before .before .before .before .before .before .before .before .before .all-finite .ensures) ∙ not-false (c .before .before .before .before .before .before .before .before .before .before .before .before .before .all-finite .result) (c .before .before .before .before .before .before .before .before .before .before .before .before .if1 .left)) (c .before .before .before .before .before .before .before .before .read-all .ensures) (c .before .before .before .before .before .before .before .before .before .before .before .before .before .before .before .before .before .before .before .pre))
+
+same-length-4 : tie.Need-same-length-4
+same-length-4 c = ran-same (c .before .before .before .before .before .before .before .before .before .read-all .ensures) .times
+
+same-length-5 : tie.Need-same-length-5
+same-length-5 c = ran-same (c .before .before .before .before .before .before .before .before .before .read-all .ensures) .sides
+
+same-length-6 : tie.Need-same-length-6
+same-length-6 c = ran-same (c .before .before .before .before .before .before .before .before .before .read-all .ensures) .values
+
+returns-3 : tie.Need-returns-3
+returns-3 c = let g = c .before .before .before .before .before .before .before .before .before .before .before .before .before .before .before .before .before .before .before .before .args in interval-arrives (kernelAdvance (g .kernel) (g .n)) (g .n) (g .start) (g .t) (take (g .n) (g .t4)) (g .u) (g .samples .now) (cells (g .times .now) (g .sides .now) (g .values .now)) (sym (c .before .before .before .before .before .before .before .before .before .before .before .before .before .before .all-finite .ensures) ∙ not-false (c .before .before .before .before .before .before .before .before .before .before .before .before .before .before .all-finite .result) (c .before .before .before .before .before .before .before .before .before .before .before .before .before .if1 .left)) (c .before .before .before .before .before .before .before .before .before .read-all .ensures) (sym (c .before .before .stopped .ensures) ∙ c .before .if2 .left) (c .arrive .ensures _)
+
+pub on-interval-spec : {M : Type 1} → statement M
+on-interval-spec =
+    tie.close
+    (tie.spec
+    array-share-prefix-rates slice-aggregate-summed (λ c κs. search needs) returns read-all-requires (λ c κs. search needs) same-length same-length-2
+    same-length-3 returns-2 arrive-requires same-length-4 same-length-5 same-length-6 returns-3)

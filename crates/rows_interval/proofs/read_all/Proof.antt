@@ -1,0 +1,69 @@
+-- `rows_interval::read_all` meets its contract. The invariant: the readings among the first k samples are made.
+use mathlib.Core.Path.{sym, _∙_}
+use borrow.Author.Needs.{needs}
+use Prim.Native.Nat.{_-_}
+use mathlib.Core.Logic.{⊎-elim}
+use lib.ListN.{length, take}
+use lib.Ieee.{ofBits}
+use Rattle.rows.specs.Written.{cells}
+use Rattle.rows.specs.Told.{kernelAdvance}
+use Rattle.rows.proofs.Parts.{fits-fresh, ran-fresh, ran-same}
+use Rattle.rows_interval.proofs.Readings.{Through, through-none, through-all, through-early, through-late, through-fits, through-stops, through-more}
+use Rattle.rows_interval.proofs.read_all.Statement.{statement}
+use Rattle.rows_interval.proofs.read_all.Tie as tie
+
+abbrev Inv-loop : tie.InvT-loop
+Inv-loop kernel n t rates u samples times₀ sides₀ values₀ p₀ k₀ times sides values p k = Through (kernelAdvance kernel n) n p₀ t (take n rates) u samples (cells times₀ sides₀ values₀) p k (cells times sides values)
+
+abbrev μ-loop : tie.MeasureT-loop
+μ-loop kernel n t rates u samples times₀ sides₀ values₀ p₀ k₀ times sides values p k = length samples - k
+
+loop-holds : tie.Need-loop-holds Inv-loop μ-loop
+unfolding ofBits
+loop-holds c = through-none (c .before .before .before .before .before .args .start)
+
+read-requires : tie.Need-read-requires Inv-loop μ-loop
+unfolding ofBits
+read-requires c κs = through-fits (c .before .before .before .before .before .before .before .loop .inv) (c .before .before .before .before .before .before .loop-test .taken) (c .before .before .before .before .if1 .taken) (c .before .before .before .if2 .taken) (fits-fresh (c .before .before .before .before .before .before .before .before .before .before .before .before .before .pre))
+
+same-length : tie.Need-same-length Inv-loop μ-loop
+same-length c = ran-same (through-stops (c .before .before .before .before .before .before .before .before .before .before .before .before .before .before .before .before .loop .inv) (c .before .before .before .before .before .before .before .before .before .before .before .before .before .before .before .loop-test .taken) (c .before .before .before .before .before .before .before .before .before .before .before .before .before .if1 .taken) (c .before .before .before .before .before .before .before .before .before .before .before .before .if2 .taken) (c .before .before .before .before .before .before .before .before .read .ensures) (sym (c .before .stopped .ensures) ∙ c .if3 .taken)) .times
+
+same-length-2 : tie.Need-same-length-2 Inv-loop μ-loop
+same-length-2 c = ran-same (through-stops (c .before .before .before .before .before .before .before .before .before .before .before .before .before .before .before .before .loop .inv) (c .before .before .before .before .before .before .before .before .before .before .before .before .before .before .before .loop-test .taken) (c .before .before .before .before .before .before .before .before .before .before .before .before .before .if1 .taken) (c .before .before .before .before .before .before .before .before .before .before .before .before .if2 .taken) (c .before .before .before .before .before .before .before .before .read .ensures) (sym (c .before .stopped .ensures) ∙ c .if3 .taken)) .sides
+
+same-length-3 : tie.Need-same-length-3 Inv-loop μ-loop
+same-length-3 c = ran-same (through-stops (c .before .before .before .before .before .before .before .before .before .before .before .before .before .before .before .before .loop .inv) (c .before .before .before .before .before .before .before .before .before .before .before .before .before .before .before .loop-test .taken) (c .before .before .before .before .before .before .before .before .before .before .before .before .before .if1 .taken) (c .before .before .before .before .before .before .before .before .before .before .before .before .if2 .taken) (c .before .before .before .before .before .before .before .before .read .ensures) (sym (c .before .stopped .ensures) ∙ c .if3 .taken)) .values
+
+returns : tie.Need-returns Inv-loop μ-loop
+unfolding ofBits
+returns c = ran-fresh (through-stops (c .before .before .before .before .before .before .before .before .before .before .before .before .before .before .before .before .loop .inv) (c .before .before .before .before .before .before .before .before .before .before .before .before .before .before .before .loop-test .taken) (c .before .before .before .before .before .before .before .before .before .before .before .before .before .if1 .taken) (c .before .before .before .before .before .before .before .before .before .before .before .before .if2 .taken) (c .before .before .before .before .before .before .before .before .read .ensures) (sym (c .before .stopped .ensures) ∙ c .if3 .taken))
+
+loop-again : tie.Need-loop-again Inv-loop μ-loop
+loop-again c =
+    let h = c .before .before .before .loop .inv in
+    let k = c .before .before .loop-test .taken in
+    ⊎-elim (λ w. rw (w .14, w .15, w .16, w .17) (through-more h k (w .0 .taken) (w .1 .taken) (w .5 .ensures) (sym (w .12 .ensures) ∙ w .13 .left)))
+    (⊎-elim (λ w. rw (w .2, w .3, w .4, w .5) (through-late h k (w .0 .taken) (w .1 .left)))
+    (λ w. rw (w .1, w .2, w .3, w .4) (through-early h k (w .0 .left))))
+    (c .if1 .came)
+
+same-length-4 : tie.Need-same-length-4 Inv-loop μ-loop
+same-length-4 c = ran-same (c .before .loop .inv .ran) .times
+
+same-length-5 : tie.Need-same-length-5 Inv-loop μ-loop
+same-length-5 c = ran-same (c .before .loop .inv .ran) .sides
+
+same-length-6 : tie.Need-same-length-6 Inv-loop μ-loop
+same-length-6 c = ran-same (c .before .loop .inv .ran) .values
+
+returns-2 : tie.Need-returns-2 Inv-loop μ-loop
+unfolding ofBits
+returns-2 c = ran-fresh (through-all (c .before .loop .inv) (c .loop-test .left))
+
+pub read-all-spec : {M : Type 1} → statement M
+read-all-spec =
+    tie.close
+    (tie.spec
+    Inv-loop μ-loop loop-holds (λ c. search needs) (λ c. search needs) read-requires (λ c κs. search needs) same-length same-length-2 same-length-3
+    returns (λ c. search needs) (λ c. search needs) loop-again same-length-4 same-length-5 same-length-6 returns-2)

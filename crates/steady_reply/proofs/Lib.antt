@@ -1,2 +1,0 @@
--- The laws of the closed cycle's chain.
-pub mod Answered

@@ -1,2 +1,0 @@
--- The laws of the columns of the unit amounts.
-pub mod UnitRuns
