@@ -1,4 +1,5 @@
--- x - y of finite values with y < x is their distance on the line, rounded (`sub-gap`). So it is above 0 (`sub-positive`), finite where it lies inside a finite difference
+-- x - y of finite values with y < x is their distance on the line, rounded (`sub-gap`). So it is above 0 (`sub-positive`), finite where it
+-- lies inside a finite difference
 -- (`sub-finite`), and the same from -0 as from +0 (`sub-level`). Assumes nothing.
 use mathlib.Core.Path.{_≡_, refl, sym, ap, ap₂, _∙_, subst}
 use Prim.Native.Nat.{ℕ, zero, suc, _+_, _-_, _*_, _^_, _≤_, _<_}
@@ -29,11 +30,14 @@ diff-scale {a} {b} {c} {P} {Q} {L} z =
 sum-scale : (f : Format) (s t : Bool) {a b c P Q L : ℕ} → Scaled a b c P Q L → sum f s a t b c ≡ sum f s P t Q L
 unfolding sum
 sum-scale f s t {a} {b} {c} {P} {Q} {L} z =
-    ap (λ (r : Float). cond (Bool·beq s t) r (cond (ltb a b) (round f t (b - a) c) (round f (s && ltb b a) (a - b) c))) (round-same f s (a + b) c (P + Q) L (z .c-pos) (z .l-pos) (summed z .right))
+    ap (λ (r : Float). cond (Bool·beq s t) r (cond (ltb a b) (round f t (b - a) c) (round f (s && ltb b a) (a - b) c)))
+    (round-same f s (a + b) c (P + Q) L (z .c-pos) (z .l-pos) (summed z .right))
     ∙ ap (λ (x : Bool). cond (Bool·beq s t) (round f s (P + Q) L) (cond x (round f t (b - a) c) (round f (s && ltb b a) (a - b) c))) (scale-ltb z)
-    ∙ ap (λ (r : Float). cond (Bool·beq s t) (round f s (P + Q) L) (cond (ltb P Q) r (round f (s && ltb b a) (a - b) c))) (round-same f t (b - a) c (Q - P) L (z .c-pos) (z .l-pos) (diff-scale (flip z)))
+    ∙ ap (λ (r : Float). cond (Bool·beq s t) (round f s (P + Q) L) (cond (ltb P Q) r (round f (s && ltb b a) (a - b) c)))
+    (round-same f t (b - a) c (Q - P) L (z .c-pos) (z .l-pos) (diff-scale (flip z)))
     ∙ ap (λ (x : Bool). cond (Bool·beq s t) (round f s (P + Q) L) (cond (ltb P Q) (round f t (Q - P) L) (round f (s && x) (a - b) c))) (scale-ltb (flip z))
-    ∙ ap (λ (r : Float). cond (Bool·beq s t) (round f s (P + Q) L) (cond (ltb P Q) (round f t (Q - P) L) r)) (round-same f (s && ltb Q P) (a - b) c (P - Q) L (z .c-pos) (z .l-pos) (diff-scale z))
+    ∙ ap (λ (r : Float). cond (Bool·beq s t) (round f s (P + Q) L) (cond (ltb P Q) (round f t (Q - P) L) r))
+    (round-same f (s && ltb Q P) (a - b) c (P - Q) L (z .c-pos) (z .l-pos) (diff-scale z))
 
 sub-units : (f : Format) (s : Bool) (m : ℕ) (e : ℤ) (t : Bool) (n : ℕ) (d : ℤ) → T (fits f (fin s m e)) → T (fits f (fin t n d))
     → sub f (fin s m e) (fin t n d) ≡ sum f s (quanta f m e) (not t) (quanta f n d) (2 ^ low f)
@@ -51,7 +55,8 @@ cond-true : (b : Bool) (x y : Float) → T b → cond b x y ≡ x
 cond-true true x y h = refl
 cond-true false x y h = absurd h
 
-sum-gap : (f : Format) (K : ℕ) (s t : Bool) (P Q L : ℕ) → P < K → Q < K → onLine K t Q < onLine K s P → sum f s P (not t) Q L ≡ round f false (onLine K s P - onLine K t Q) L
+sum-gap : (f : Format) (K : ℕ) (s t : Bool) (P Q L : ℕ) → P < K → Q < K → onLine K t Q < onLine K s P
+    → sum f s P (not t) Q L ≡ round f false (onLine K s P - onLine K t Q) L
 unfolding sum
 sum-gap f K false false P Q L h k l =
     cond-false (ltb P Q) (round f true (Q - P) L) (round f false (P - Q) L) (λ t. no (ltb→lt P Q t)) ∙ ap (λ (x : ℕ). round f false x L) same
@@ -85,7 +90,8 @@ sub-gap f (inf s) y p q h = absurd (p .is-finite)
 sub-gap f (fin s m e) nan p q h = absurd (q .is-finite)
 sub-gap f (fin s m e) (inf t) p q h = absurd (q .is-finite)
 sub-gap f (fin s m e) (fin t n d) p q h =
-    sub-units f s m e t n d (p .fit) (q .fit) ∙ sum-gap f (overflow f) s t (quanta f m e) (quanta f n d) (2 ^ low f) (quanta-lt f s m e (p .fit)) (quanta-lt f t n d (q .fit)) h
+    sub-units f s m e t n d (p .fit) (q .fit) ∙ sum-gap f (overflow f) s t (quanta f m e) (quanta f n d) (2 ^ low f)
+    (quanta-lt f s m e (p .fit)) (quanta-lt f t n d (q .fit)) h
 
 -- ---- finite inside a finite one
 finite-odd : (d : ℕ) (s : Bool) (q k l : ℕ) → T (finite (odd d s q k l))
@@ -97,7 +103,8 @@ finite-units : (f : Format) (q k : ℕ) → T (finite (units f false q k)) ⊎ (
 unfolding units
 finite-units f q k = go (ltb (q * 2 ^ k) (overflow f))
   where
-    go : (b : Bool) → T (finite (cond b (odd (suc (prec f)) false q k (low f)) (inf false))) ⊎ (cond b (odd (suc (prec f)) false q k (low f)) (inf false) ≡ inf false)
+    go : (b : Bool) → T (finite (cond b (odd (suc (prec f)) false q k (low f)) (inf false)))
+        ⊎ (cond b (odd (suc (prec f)) false q k (low f)) (inf false) ≡ inf false)
     go true = inl (finite-odd (suc (prec f)) false q k (low f))
     go false = inr refl
 
@@ -119,7 +126,8 @@ round-finite f a b c C h k = go (finite-round f a c) (round-mono f a c b c C C (
     go (inl t) l = t
     go (inr e) l = absurd (under-finite (round f false b c) (subst (λ (z : Float). T (le z (round f false b c))) e l) k)
 
-pub sub-finite : (f : Format) (a t s z : Float) → Real f a → Real f t → Real f s → Real f z → T (le a t) → T (lt t s) → T (le s z) → T (finite (sub f z a)) → T (finite (sub f s t))
+pub sub-finite : (f : Format) (a t s z : Float) → Real f a → Real f t → Real f s → Real f z → T (le a t) → T (lt t s) → T (le s z)
+    → T (finite (sub f z a)) → T (finite (sub f s t))
 sub-finite f a t s z A B C D h k l w =
     let x : spot f a ≤ spot f t = le→spot f a t (real-good A) (real-good B) h in
     let y : spot f t < spot f s = lt→spot f t s (real-good B) (real-good C) k in
@@ -131,14 +139,17 @@ sub-finite f a t s z A B C D h k l w =
 
 -- ---- above 0
 smallest : (f : Format) → HasValue (round f false 1 (2 ^ low f)) false 1 (2 ^ low f)
-smallest f = round-exact f false 1 (2 ^ low f) 1 0 (pow-pos (low f)) (lt-of-lt-of-le (lit< {m = 1} {n = 2 ^ 2} tt) (pow-mono (two f))) (pow-lt (room (low f) (emax f))) refl
+smallest f =
+    round-exact f false 1 (2 ^ low f) 1 0 (pow-pos (low f)) (lt-of-lt-of-le (lit< {m = 1} {n = 2 ^ 2} tt) (pow-mono (two f)))
+    (pow-lt (room (low f) (emax f))) refl
   where
     room : (l e : ℕ) → 0 < l + suc e
     room l e = omega arith
 
 round-above : (f : Format) (a : ℕ) → 0 < a → T (above (round f false a (2 ^ low f)))
 round-above f a h =
-    above-of-le (round f false 1 (2 ^ low f)) (round f false a (2 ^ low f)) (positive-of-value (round f false 1 (2 ^ low f)) 1 (2 ^ low f) (smallest f) (zero-lt-suc 0))
+    above-of-le (round f false 1 (2 ^ low f)) (round f false a (2 ^ low f)) (positive-of-value (round f false 1 (2 ^ low f)) 1 (2 ^ low f)
+    (smallest f) (zero-lt-suc 0))
     (round-mono f 1 (2 ^ low f) a (2 ^ low f) (pow-pos (low f)) (pow-pos (low f)) (mul-le-mul-right (2 ^ low f) h))
 
 above-lt : (z : Float) → T (above z) → T (lt plusZero z)
@@ -148,7 +159,8 @@ above-lt (inf true) h = absurd h
 above-lt (inf false) h = tt
 above-lt (fin true m e) h = absurd h
 above-lt (fin false m e) h =
-    lt→ltb (0 * down e) (m * up e * 1) (subst (λ (x : ℕ). x < m * up e * 1) (sym (zero-mul (down e))) (mul-pos (mul-pos (ltb→lt 0 m h) (up-pos e)) (zero-lt-suc 0)))
+    lt→ltb (0 * down e) (m * up e * 1) (subst (λ (x : ℕ). x < m * up e * 1) (sym (zero-mul (down e)))
+    (mul-pos (mul-pos (ltb→lt 0 m h) (up-pos e)) (zero-lt-suc 0)))
 
 pub sub-positive : (f : Format) (x y : Float) → Real f x → Real f y → T (lt y x) → T (lt plusZero (sub f x y))
 sub-positive f x y p q h =

@@ -27,7 +27,8 @@ drop-all (x ∷ xs) zero h = absurd (no h)
 drop-all (x ∷ xs) (suc i) h = drop-all xs i (omega arith)
 
 module _ {A : Type 0} (p : A → Bool) (xs : List A) {r : Bool} where
-  pub all-more : (d : A) (i : ℕ) (ok : Bool) {v : Bool} → i < length xs → v ≡ p (getD xs i d) → ok && all p (drop i xs) ≡ r → (ok && v) && all p (drop (i + 1) xs) ≡ r
+  pub all-more : (d : A) (i : ℕ) (ok : Bool) {v : Bool} → i < length xs → v ≡ p (getD xs i d) → ok && all p (drop i xs) ≡ r
+      → (ok && v) && all p (drop (i + 1) xs) ≡ r
   all-more d i ok h e f = and-regroup ok _ _ ∙ rw (e, add-one) (rw (drop-cons xs i d h) at f)
 
   pub all-done : (i : ℕ) (ok : Bool) → length xs ≤ i → ok && all p (drop i xs) ≡ r → ok ≡ r

@@ -44,7 +44,9 @@ mag-magnitude f (fin s m e) = refl
 
 enc-inj : (f : Format) (x y : Float) → Good f x → Good f y → enc f (mag f x) ≡ enc f (mag f y) → mag f x ≡ mag f y
 enc-inj f x y p q e =
-    let w : magnitude x ≡ magnitude y = sym (ofBits-toBits f (magnitude x) (magnitude-fits f x (p .0))) ∙ ap (ofBits f) (magnitude-bits f x (p .1) ∙ e ∙ sym (magnitude-bits f y (q .1))) ∙ ofBits-toBits f (magnitude y) (magnitude-fits f y (q .0)) in
+    let w : magnitude x ≡ magnitude y = sym (ofBits-toBits f (magnitude x) (magnitude-fits f x (p .0)))
+    ∙ ap (ofBits f) (magnitude-bits f x (p .1) ∙ e ∙ sym (magnitude-bits f y (q .1)))
+    ∙ ofBits-toBits f (magnitude y) (magnitude-fits f y (q .0)) in
     sym (mag-magnitude f x) ∙ ap (mag f) w ∙ mag-magnitude f y
 
 pub enc-le-back : (f : Format) (x y : Float) → Good f x → Good f y → enc f (mag f x) ≤ enc f (mag f y) → mag f x ≤ mag f y
@@ -55,10 +57,12 @@ enc-le-back f x y p q h = le-of-suc-le-suc (lt-of-not-le (λ (g : suc (mag f y) 
 finite-enc : (f : Format) (x : Float) → Good f x → ltb (enc f (mag f x)) (enc f (overflow f)) ≡ finite x
 unfolding isNan fits
 finite-enc f nan p = absurd (p .1)
-finite-enc f (inf s) p = is-false (ltb (enc f (overflow f)) (enc f (overflow f))) (not-T (ltb (enc f (overflow f)) (enc f (overflow f))) (λ t. lt-irrefl (enc f (overflow f)) (ltb→lt (enc f (overflow f)) (enc f (overflow f)) t)))
+finite-enc f (inf s) p = is-false (ltb (enc f (overflow f)) (enc f (overflow f))) (not-T (ltb (enc f (overflow f)) (enc f (overflow f)))
+    (λ t. lt-irrefl (enc f (overflow f)) (ltb→lt (enc f (overflow f)) (enc f (overflow f)) t)))
 finite-enc f (fin s m e) p =
     is-true (ltb (enc f (quanta f m e)) (enc f (overflow f))) (lt→ltb (enc f (quanta f m e)) (enc f (overflow f))
-    (lt-of-not-le (λ (g : enc f (overflow f) ≤ enc f (quanta f m e)). lt-irrefl (quanta f m e) (lt-of-lt-of-le (quanta-lt f s m e (p .0)) (enc-le-back f (inf s) (fin s m e) (tt, tt) p g)))))
+    (lt-of-not-le (λ (g : enc f (overflow f) ≤ enc f (quanta f m e)). lt-irrefl (quanta f m e)
+    (lt-of-lt-of-le (quanta-lt f s m e (p .0)) (enc-le-back f (inf s) (fin s m e) (tt, tt) p g)))))
 
 pub finite64 : (x : Float) → Good binary64 x → ltb (bitAnd (toBits binary64 x) 0x7fff_ffff_ffff_ffff) 0x7ff0_0000_0000_0000 ≡ finite x
 finite64 x p =

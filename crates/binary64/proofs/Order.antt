@@ -12,7 +12,9 @@ use Rattle.binary64.proofs.Units.{spot, lt-spot, eq-spot, Good}
 
 le-spot : (f : Format) (x y : Float) → Good f x → Good f y → le x y ≡ leb (spot f x) (spot f y)
 unfolding le
-le-spot f x y p q = ap₂ (λ (a b : Bool). a || b) (lt-spot f x y (p .0) (q .0) (p .1) (q .1)) (eq-spot f x y (p .0) (q .0) (p .1) (q .1)) ∙ or-iff (spot f x) (spot f y)
+le-spot f x y p q =
+    ap₂ (λ (a b : Bool). a || b) (lt-spot f x y (p .0) (q .0) (p .1) (q .1)) (eq-spot f x y (p .0) (q .0) (p .1) (q .1))
+    ∙ or-iff (spot f x) (spot f y)
 
 module _ (f : Format) (x y : Float) (p : Good f x) (q : Good f y) where
   pub lt→spot : T (lt x y) → spot f x < spot f y

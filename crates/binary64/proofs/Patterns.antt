@@ -1,7 +1,9 @@
 -- What `toBits` writes, as a number: the sign's weight plus `enc` of the magnitude in units, which rises with the magnitude. Assumes nothing.
 use mathlib.Core.Path.{_≡_, refl, sym, ap, _∙_, subst}
 use Prim.Native.Nat.{ℕ, suc, _+_, _-_, _*_, _/_, _%_, _^_, _≤_, _<_, zero-le}
-use native.Mathlib.Nat.{le-of-eq, le-trans, le-antisymm, lt-of-lt-of-le, lt-of-le-of-lt, lt-of-not-le, lt-irrefl, eq-or-lt-of-le, mul-comm, mul-le-mul-right, suc-mul, zero-add, add-assoc, le-div-iff-mul-le, mul-div-cancel, pow-succ', lt-suc-self, mul-lt-mul-of-pos-right, add-mod-left, mod-eq-of-lt}
+use native.Mathlib.Nat.{le-of-eq, le-trans, le-antisymm, lt-of-lt-of-le, lt-of-le-of-lt, lt-of-not-le, lt-irrefl, eq-or-lt-of-le, mul-comm}
+use native.Mathlib.Nat.{mul-le-mul-right, suc-mul, zero-add, add-assoc, le-div-iff-mul-le, mul-div-cancel, pow-succ', lt-suc-self}
+use native.Mathlib.Nat.{mul-lt-mul-of-pos-right, add-mod-left, mod-eq-of-lt}
 use native.Mathlib.Omega.{arith}
 use mathlib.Core.Bool.{Bool, true, false, not, cond}
 use mathlib.Core.Logic.{_⊎_, inl, inr}
@@ -47,7 +49,9 @@ enc-mono f a b h = go (eq-or-lt-of-le (fewer (size a) (size b) (prec f) (size-le
     in-use z p P h = omega arith
 
     high : 0 < k → hid f ≤ b / 2 ^ k
-    high l = le-div-iff-mul-le (pow-pos k) .1 (le-trans (le-of-eq (sym (pow-add 2 (prec f - 1) k))) (size-reaches b (prec f - 1 + k) (in-use (size b) (prec f) (two f) l)))
+    high l =
+        le-div-iff-mul-le (pow-pos k) .1 (le-trans (le-of-eq (sym (pow-add 2 (prec f - 1) k)))
+        (size-reaches b (prec f - 1 + k) (in-use (size b) (prec f) (two f) l)))
 
     add-left : (c : ℕ) {x y : ℕ} → x ≤ y → c + x ≤ c + y
     add-left c h = omega arith
@@ -58,7 +62,9 @@ enc-mono f a b h = go (eq-or-lt-of-le (fewer (size a) (size b) (prec f) (size-le
 
     go : (j ≡ k) ⊎ (j < k) → j * hid f + a / 2 ^ j ≤ k * hid f + b / 2 ^ k
     go (inl e) = subst (λ (x : ℕ). j * hid f + a / 2 ^ j ≤ x * hid f + b / 2 ^ x) e (add-left (j * hid f) (shr-mono j h))
-    go (inr l) = step (j * hid f) (k * hid f) (hid f) (2 ^ prec f) (a / 2 ^ j) (b / 2 ^ k) (le-trans (le-of-eq (sym (suc-mul j (hid f)))) (mul-le-mul-right (hid f) l)) (twice-hid f) (kept-lt (prec f) a) (high (lt-of-le-of-lt zero-le l))
+    go (inr l) = step (j * hid f) (k * hid f) (hid f) (2 ^ prec f) (a / 2 ^ j) (b / 2 ^ k)
+        (le-trans (le-of-eq (sym (suc-mul j (hid f)))) (mul-le-mul-right (hid f) l)) (twice-hid f) (kept-lt (prec f) a)
+        (high (lt-of-le-of-lt zero-le l))
 
 -- ---- an infinity's digits are those of the first magnitude that is too large
 pub pow-lt-back : (i p : ℕ) → 2 ^ i < 2 ^ p → i < p
@@ -86,7 +92,10 @@ enc-over f =
     plus-one n = omega arith
 
 pub enc-lt : (f : Format) (x : Float) → T (fits f x) → enc f (mag f x) < top f
-enc-lt f x h = lt-of-le-of-lt (enc-mono f (mag f x) (overflow f) (mag-le f x h)) (subst (λ (y : ℕ). y < top f) (sym (enc-over f)) (subst (λ (y : ℕ). ones f * hid f < y) (mul-comm (suc (ones f)) (hid f)) (mul-lt-mul-of-pos-right (lt-suc-self (ones f)) (pow-pos (prec f - 1)))))
+enc-lt f x h =
+    lt-of-le-of-lt (enc-mono f (mag f x) (overflow f) (mag-le f x h)) (subst (λ (y : ℕ). y < top f) (sym (enc-over f))
+    (subst (λ (y : ℕ). ones f * hid f < y) (mul-comm (suc (ones f)) (hid f)) (mul-lt-mul-of-pos-right (lt-suc-self (ones f))
+    (pow-pos (prec f - 1)))))
 
 -- ---- of a value that is no NaN: its sign and its magnitude
 pub toBits-mag : (f : Format) (x : Float) → T (not (isNan x)) → toBits f x ≡ cond (negative x) (top f) 0 + enc f (mag f x)

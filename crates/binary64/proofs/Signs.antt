@@ -27,10 +27,16 @@ unfolding lt
 atLeastZero→nlt nan h = absurd h
 atLeastZero→nlt (inf true) h = absurd h
 atLeastZero→nlt (inf false) h = tt
-atLeastZero→nlt (fin false m e) h = not-T (ltb (m * up e * 1) (0 * down e)) (λ (l : T (ltb (m * up e * 1) (0 * down e))). omega (arith, ltb→lt (m * up e * 1) (0 * down e) l, zero-mul (down e)))
+atLeastZero→nlt (fin false m e) h = not-T (ltb (m * up e * 1) (0 * down e)) (λ (l : T (ltb (m * up e * 1) (0 * down e))). omega
+    (arith, ltb→lt (m * up e * 1) (0 * down e) l, zero-mul (down e)))
 atLeastZero→nlt (fin true m e) h =
     not-T (ltb 0 (m * up e * 1 + 0 * down e))
-    (λ (l : T (ltb 0 (m * up e * 1 + 0 * down e))). omega (arith, ltb→lt 0 (m * up e * 1 + 0 * down e) l, zero-mul (down e), ap (λ (x : ℕ). x * up e * 1) (eqb→eq m 0 h) ∙ zero-product (up e) 1))
+    (λ (l : T (ltb 0 (m * up e * 1 + 0 * down e))). omega (
+      arith,
+      ltb→lt 0 (m * up e * 1 + 0 * down e) l,
+      zero-mul (down e),
+      ap (λ (x : ℕ). x * up e * 1) (eqb→eq m 0 h) ∙ zero-product (up e) 1,
+    ))
 
 nlt→atLeastZero : (x : Float) → T (finite x) → T (not (lt x plusZero)) → T (atLeastZero x)
 unfolding lt
@@ -39,7 +45,8 @@ nlt→atLeastZero (inf s) f h = absurd f
 nlt→atLeastZero (fin false m e) f h = tt
 nlt→atLeastZero (fin true zero e) f h = tt
 nlt→atLeastZero (fin true (suc k) e) f h =
-    absurd (T-not (ltb 0 (suc k * up e * 1 + 0 * down e)) h (lt→ltb 0 (suc k * up e * 1 + 0 * down e) (positive (suc k * up e * 1) (0 * down e) (mul-pos (mul-pos (zero-lt-suc k) (up-pos e)) (zero-lt-suc 0)))))
+    absurd (T-not (ltb 0 (suc k * up e * 1 + 0 * down e)) h (lt→ltb 0 (suc k * up e * 1 + 0 * down e)
+    (positive (suc k * up e * 1) (0 * down e) (mul-pos (mul-pos (zero-lt-suc k) (up-pos e)) (zero-lt-suc 0)))))
   where
     positive : (a b : ℕ) → 0 < a → 0 < a + b
     positive a b p = omega arith
@@ -86,7 +93,8 @@ value-zero (fin true (suc k) e) c h v = absurd (no (suc k * up e * c) (mul-pos (
 round-zero : (f : Format) (a c : ℕ) → a ≡ 0 → 0 < c → T (atLeastZero (round f true a c))
 round-zero f a c p h =
     subst (λ (x : ℕ). T (atLeastZero (round f true x c))) (sym p)
-    (value-zero (round f true 0 c) c h (round-exact f true 0 c 0 0 h (pow-pos (prec f)) (subst (λ (x : ℕ). x < 2 ^ (low f + suc (emax f))) (sym (zero-mul (2 ^ 0))) (pow-pos (low f + suc (emax f)))) (simp zero-mul)))
+    (value-zero (round f true 0 c) c h (round-exact f true 0 c 0 0 h (pow-pos (prec f))
+    (subst (λ (x : ℕ). x < 2 ^ (low f + suc (emax f))) (sym (zero-mul (2 ^ 0))) (pow-pos (low f + suc (emax f)))) (simp zero-mul)))
 
 -- ---- sums
 sum-atLeastZero : (f : Format) (s : Bool) (a : ℕ) (t : Bool) (b c : ℕ) → 0 < c → (T s → a ≡ 0) → (T t → b ≡ 0) → T (atLeastZero (sum f s a t b c))
@@ -129,7 +137,8 @@ add-atLeastZero f (inf false) (inf false) h k = tt
 add-atLeastZero f (inf s) (fin t n d) h k = h
 add-atLeastZero f (fin s m e) nan h k = absurd k
 add-atLeastZero f (fin s m e) (inf t) h k = k
-add-atLeastZero f (fin s m e) (fin t n d) h k = sum-atLeastZero f s (m * up e * down d) t (n * up d * down e) (down e * down d) (mul-pos (down-pos e) (down-pos d)) (flat s m e (down d) h) (flat t n d (down e) k)
+add-atLeastZero f (fin s m e) (fin t n d) h k = sum-atLeastZero f s (m * up e * down d) t (n * up d * down e) (down e * down d)
+    (mul-pos (down-pos e) (down-pos d)) (flat s m e (down d) h) (flat t n d (down e) k)
 
 -- ---- quotients by what is above 0
 quotient-atLeastZero : (f : Format) (x y : Float) → T (finite x) → T (atLeastZero x) → T (finite y) → T (lt plusZero y) → T (atLeastZero (div f x y))
@@ -143,12 +152,17 @@ quotient-atLeastZero f (fin s m e) (fin false zero d) g h k l = absurd (no (ltb�
   where
     no : 0 * down d < 0 * up d * 1 → ⊥
     no p = omega (arith, zero-product (up d) 1)
-quotient-atLeastZero f (fin s m e) (fin false (suc n) d) g h k l = subst (λ (b : Bool). T (atLeastZero (cond b (cond (eqb m 0) nan (inf (unlike s false))) (round f (unlike s false) (m * up e * down d) (suc n * up d * down e))))) (sym (eqb·suc-zero n)) (on s h)
+quotient-atLeastZero f (fin s m e) (fin false (suc n) d) g h k l = subst (λ (b : Bool). T
+    (atLeastZero (cond b (cond (eqb m 0) nan (inf (unlike s false))) (round f (unlike s false) (m * up e * down d)
+    (suc n * up d * down e))))) (sym (eqb·suc-zero n)) (on s h)
   where
     on : (s : Bool) → T (atLeastZero (fin s m e)) → T (atLeastZero (round f (unlike s false) (m * up e * down d) (suc n * up d * down e)))
     on false h = round-atLeastZero f (m * up e * down d) (suc n * up d * down e)
-    on true h = round-zero f (m * up e * down d) (suc n * up d * down e) (flat true m e (down d) h tt) (mul-pos (mul-pos (zero-lt-suc n) (up-pos d)) (down-pos e))
+    on true h =
+        round-zero f (m * up e * down d) (suc n * up d * down e) (flat true m e (down d) h tt)
+        (mul-pos (mul-pos (zero-lt-suc n) (up-pos d)) (down-pos e))
 
 pub div-atLeastZero : (f : Format) (x y : Float) → T (nonnegative x) → T (positive y) → T (atLeastZero (div f x y))
 div-atLeastZero f x y h k =
-    quotient-atLeastZero f x y (and-l (finite x) (not (lt x plusZero)) h) (nonnegative→atLeastZero x h) (and-l (finite y) (lt plusZero y) k) (and-r (finite y) (lt plusZero y) k)
+    quotient-atLeastZero f x y (and-l (finite x) (not (lt x plusZero)) h) (nonnegative→atLeastZero x h) (and-l (finite y) (lt plusZero y) k)
+    (and-r (finite y) (lt plusZero y) k)

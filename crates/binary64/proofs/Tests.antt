@@ -25,7 +25,9 @@ pub iff-eqb : (a b c d : ℕ) → (a ≡ b → c ≡ d) → (c ≡ d → a ≡ b
 iff-eqb a b c d p q = same-test (eqb a b) (eqb c d) (λ t. eq→eqb (p (eqb→eq a b t))) (λ t. eq→eqb (q (eqb→eq c d t)))
 
 pub or-iff : (a b : ℕ) → (ltb a b || eqb a b) ≡ leb a b
-or-iff a b = same-test (ltb a b || eqb a b) (leb a b) (λ t. le→leb a b (fro (ltb a b) (eqb a b) (ltb→lt a b) (eqb→eq a b) t)) (λ t. to (eq-or-lt-of-le (leb→le a b t)))
+or-iff a b =
+    same-test (ltb a b || eqb a b) (leb a b) (λ t. le→leb a b (fro (ltb a b) (eqb a b) (ltb→lt a b) (eqb→eq a b) t))
+    (λ t. to (eq-or-lt-of-le (leb→le a b t)))
   where
     fro : (x y : Bool) → (T x → a < b) → (T y → a ≡ b) → T (x || y) → a ≤ b
     fro true y p q t = le-of-lt (p tt)

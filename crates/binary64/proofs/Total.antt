@@ -14,11 +14,21 @@ use Rattle.binary64.proofs.Units.{onLine, spot-line, lt-spot, eq-spot, 
 unfoldable pub rank : Format → Float → ℕ
 rank f x = onLine (overflow f) (negative x) (mag f x) + cond (negative x) 0 1
 
-rank-test : (K : ℕ) (s t : Bool) (M N : ℕ) → M ≤ K → N ≤ K → (ltb (onLine K s M) (onLine K t N) || (eqb (onLine K s M) (onLine K t N) && (s || not t))) ≡ leb (onLine K s M + cond s 0 1) (onLine K t N + cond t 0 1)
-rank-test K true true M N h k = ap (λ (b : Bool). ltb (K - M) (K - N) || b) (and-true (eqb (K - M) (K - N))) ∙ or-iff (K - M) (K - N) ∙ iff-leb (K - M) (K - N) (K - M + 0) (K - N + 0) (omega arith) (omega arith)
-rank-test K true false M N h k = ap (λ (b : Bool). ltb (K - M) (K + N) || b) (and-true (eqb (K - M) (K + N))) ∙ or-iff (K - M) (K + N) ∙ iff-leb (K - M) (K + N) (K - M + 0) (K + N + 1) (omega arith) (omega arith)
-rank-test K false true M N h k = ap (λ (b : Bool). ltb (K + M) (K - N) || b) (and-false (eqb (K + M) (K - N))) ∙ or-false (ltb (K + M) (K - N)) ∙ iff-leb (suc (K + M)) (K - N) (K + M + 1) (K - N + 0) (omega arith) (omega arith)
-rank-test K false false M N h k = ap (λ (b : Bool). ltb (K + M) (K + N) || b) (and-true (eqb (K + M) (K + N))) ∙ or-iff (K + M) (K + N) ∙ iff-leb (K + M) (K + N) (K + M + 1) (K + N + 1) (omega arith) (omega arith)
+rank-test : (K : ℕ) (s t : Bool) (M N : ℕ) → M ≤ K → N ≤ K
+    → (ltb (onLine K s M) (onLine K t N) || (eqb (onLine K s M) (onLine K t N) && (s || not t)))
+    ≡ leb (onLine K s M + cond s 0 1) (onLine K t N + cond t 0 1)
+rank-test K true true M N h k =
+    ap (λ (b : Bool). ltb (K - M) (K - N) || b) (and-true (eqb (K - M) (K - N))) ∙ or-iff (K - M) (K - N)
+    ∙ iff-leb (K - M) (K - N) (K - M + 0) (K - N + 0) (omega arith) (omega arith)
+rank-test K true false M N h k =
+    ap (λ (b : Bool). ltb (K - M) (K + N) || b) (and-true (eqb (K - M) (K + N))) ∙ or-iff (K - M) (K + N)
+    ∙ iff-leb (K - M) (K + N) (K - M + 0) (K + N + 1) (omega arith) (omega arith)
+rank-test K false true M N h k =
+    ap (λ (b : Bool). ltb (K + M) (K - N) || b) (and-false (eqb (K + M) (K - N))) ∙ or-false (ltb (K + M) (K - N))
+    ∙ iff-leb (suc (K + M)) (K - N) (K + M + 1) (K - N + 0) (omega arith) (omega arith)
+rank-test K false false M N h k =
+    ap (λ (b : Bool). ltb (K + M) (K + N) || b) (and-true (eqb (K + M) (K + N))) ∙ or-iff (K + M) (K + N)
+    ∙ iff-leb (K + M) (K + N) (K + M + 1) (K + N + 1) (omega arith) (omega arith)
 
 pub total-rank : (f : Format) (x y : Float) → Good f x → Good f y → totalLe x y ≡ leb (rank f x) (rank f y)
 unfolding totalLe rank

@@ -1,7 +1,10 @@
--- Values that a format holds, counted in units of its smallest value; and the one line of naturals, `spot`, on which `lt` and `eq` are those of numbers. Assumes nothing.
+-- Values that a format holds, counted in units of its smallest value; and the one line of naturals, `spot`, on which `lt` and `eq` are
+-- those of numbers. Assumes nothing.
 use mathlib.Core.Path.{_≡_, refl, sym, ap, ap₂, _∙_, subst}
 use Prim.Native.Nat.{ℕ, zero, suc, _+_, _-_, _*_, _/_, _%_, _^_, _≤_, _<_, zero-le}
-use native.Mathlib.Nat.{le-refl, le-of-eq, le-of-lt, lt-of-lt-of-le, lt-of-not-le, lt-irrefl, le-of-suc-le-suc, mul-comm, mul-assoc, mul-right-comm, mul-one, zero-mul, zero-div, div-one, mul-pos, mul-lt-mul-of-pos-right, lt-of-mul-lt-mul-right, eq-of-mul-eq-mul-right, add-mul, sub-add-cancel, mul-div-cancel}
+use native.Mathlib.Nat.{le-refl, le-of-eq, le-of-lt, lt-of-lt-of-le, lt-of-not-le, lt-irrefl, le-of-suc-le-suc, mul-comm, mul-assoc}
+use native.Mathlib.Nat.{mul-right-comm, mul-one, zero-mul, zero-div, div-one, mul-pos, mul-lt-mul-of-pos-right, lt-of-mul-lt-mul-right}
+use native.Mathlib.Nat.{eq-of-mul-eq-mul-right, add-mul, sub-add-cancel, mul-div-cancel}
 use native.Mathlib.Omega.{arith}
 use mathlib.Core.Bool.{Bool, true, false, not, _&&_, _||_, Bool·beq, and-true}
 use lib.IntN.{ℤ, pos, negsuc}
@@ -54,7 +57,9 @@ unfolding quanta
 quanta-zero f e = ap (λ (x : ℕ). x * 2 ^ low f / down e) (zero-mul (up e)) ∙ ap (λ (x : ℕ). x / down e) (zero-mul (2 ^ low f)) ∙ zero-div (down e)
 
 pub quanta-exact : (f : Format) (s : Bool) (m : ℕ) (e : ℤ) → T (fits f (fin s m e)) → m * up e * 2 ^ low f ≡ quanta f m e * down e
-quanta-exact f s zero e h = ap (λ (x : ℕ). x * 2 ^ low f) (zero-mul (up e)) ∙ zero-mul (2 ^ low f) ∙ sym (ap (λ (x : ℕ). x * down e) (quanta-zero f e) ∙ zero-mul (down e))
+quanta-exact f s zero e h =
+    ap (λ (x : ℕ). x * 2 ^ low f) (zero-mul (up e)) ∙ zero-mul (2 ^ low f)
+    ∙ sym (ap (λ (x : ℕ). x * down e) (quanta-zero f e) ∙ zero-mul (down e))
 quanta-exact f s (suc m) e h = unfold quanta in sym (exact-at (suc m * up e) (low f) e (fits-says f s m e h .2))
 
 pub quanta-lt : (f : Format) (s : Bool) (m : ℕ) (e : ℤ) → T (fits f (fin s m e)) → quanta f m e < overflow f
@@ -63,7 +68,8 @@ quanta-lt f s (suc m) e h =
     lt-of-mul-lt-mul-right (down e)
     (subst (λ (x : ℕ). x < overflow f * down e) (quanta-exact f s (suc m) e h)
     (lt-of-lt-of-le (mul-lt-mul-of-pos-right (fits-says f s m e h .3) (pow-pos (low f)))
-    (le-of-eq (mul-right-comm (2 ^ suc (emax f)) (down e) (2 ^ low f) ∙ ap (λ (x : ℕ). x * down e) (mul-comm (2 ^ suc (emax f)) (2 ^ low f) ∙ sym (pow-add 2 (low f) (suc (emax f))))))))
+    (le-of-eq (mul-right-comm (2 ^ suc (emax f)) (down e) (2 ^ low f)
+    ∙ ap (λ (x : ℕ). x * down e) (mul-comm (2 ^ suc (emax f)) (2 ^ low f) ∙ sym (pow-add 2 (low f) (suc (emax f))))))))
 
 -- ---- two values that fit, over one denominator: x is a / c and P / L, y is b / c and Q / L
 pub record Scaled (a b c P Q L : ℕ) : Type 0 where
@@ -78,15 +84,21 @@ scaled f s m e t n d h k = record {
   c-pos = mul-pos (down-pos e) (down-pos d);
   l-pos = pow-pos (low f);
   left = mul-right-comm (m * up e) (down d) (2 ^ low f) ∙ ap (λ (x : ℕ). x * down d) (quanta-exact f s m e h) ∙ mul-assoc (quanta f m e) (down e) (down d);
-  right = mul-right-comm (n * up d) (down e) (2 ^ low f) ∙ ap (λ (x : ℕ). x * down e) (quanta-exact f t n d k) ∙ mul-right-comm (quanta f n d) (down d) (down e) ∙ mul-assoc (quanta f n d) (down e) (down d);
+  right =
+      mul-right-comm (n * up d) (down e) (2 ^ low f) ∙ ap (λ (x : ℕ). x * down e) (quanta-exact f t n d k)
+      ∙ mul-right-comm (quanta f n d) (down d) (down e) ∙ mul-assoc (quanta f n d) (down e) (down d);
 }
 
 module _ {a b c P Q L : ℕ} (z : Scaled a b c P Q L) where
   scale-lt : a < b → P < Q
-  scale-lt h = lt-of-mul-lt-mul-right c (subst (λ (x : ℕ). x < Q * c) (z .left) (subst (λ (x : ℕ). a * L < x) (z .right) (mul-lt-mul-of-pos-right h (z .l-pos))))
+  scale-lt h =
+      lt-of-mul-lt-mul-right c (subst (λ (x : ℕ). x < Q * c) (z .left) (subst (λ (x : ℕ). a * L < x) (z .right)
+      (mul-lt-mul-of-pos-right h (z .l-pos))))
 
   scale-lt-back : P < Q → a < b
-  scale-lt-back h = lt-of-mul-lt-mul-right L (subst (λ (x : ℕ). x < b * L) (sym (z .left)) (subst (λ (x : ℕ). P * c < x) (sym (z .right)) (mul-lt-mul-of-pos-right h (z .c-pos))))
+  scale-lt-back h =
+      lt-of-mul-lt-mul-right L (subst (λ (x : ℕ). x < b * L) (sym (z .left)) (subst (λ (x : ℕ). P * c < x) (sym (z .right))
+      (mul-lt-mul-of-pos-right h (z .c-pos))))
 
   scale-eq : a ≡ b → P ≡ Q
   scale-eq h = eq-of-mul-eq-mul-right c (z .c-pos) P Q (sym (z .left) ∙ ap (λ (x : ℕ). x * L) h ∙ z .right)
@@ -153,7 +165,8 @@ level-line : (K : ℕ) (s t : Bool) (P Q : ℕ) → P < K → Q < K → level s 
 level-line K false false P Q h k = and-true (eqb P Q) ∙ iff-eqb P Q (K + P) (K + Q) (omega arith) (omega arith)
 level-line K true true P Q h k = and-true (eqb P Q) ∙ iff-eqb P Q (K - P) (K - Q) (omega arith) (omega arith)
 level-line K false true P Q h k =
-    and-iff (eqb P Q) (eqb P 0) (eqb (K + P) (K - Q)) (λ x y. eq→eqb (both (eqb→eq P Q x) (eqb→eq P 0 y))) (λ x. eq→eqb (one (eqb→eq (K + P) (K - Q) x))) (λ x. eq→eqb (two (eqb→eq (K + P) (K - Q) x)))
+    and-iff (eqb P Q) (eqb P 0) (eqb (K + P) (K - Q)) (λ x y. eq→eqb (both (eqb→eq P Q x) (eqb→eq P 0 y)))
+    (λ x. eq→eqb (one (eqb→eq (K + P) (K - Q) x))) (λ x. eq→eqb (two (eqb→eq (K + P) (K - Q) x)))
   where
     both : P ≡ Q → P ≡ 0 → K + P ≡ K - Q
     both x y = omega arith
@@ -164,7 +177,8 @@ level-line K false true P Q h k =
     two : K + P ≡ K - Q → P ≡ 0
     two x = omega arith
 level-line K true false P Q h k =
-    and-iff (eqb P Q) (eqb P 0) (eqb (K - P) (K + Q)) (λ x y. eq→eqb (both (eqb→eq P Q x) (eqb→eq P 0 y))) (λ x. eq→eqb (one (eqb→eq (K - P) (K + Q) x))) (λ x. eq→eqb (two (eqb→eq (K - P) (K + Q) x)))
+    and-iff (eqb P Q) (eqb P 0) (eqb (K - P) (K + Q)) (λ x y. eq→eqb (both (eqb→eq P Q x) (eqb→eq P 0 y)))
+    (λ x. eq→eqb (one (eqb→eq (K - P) (K + Q) x))) (λ x. eq→eqb (two (eqb→eq (K - P) (K + Q) x)))
   where
     both : P ≡ Q → P ≡ 0 → K - P ≡ K + Q
     both x y = omega arith
@@ -226,10 +240,12 @@ lt-spot f (inf true) (inf false) h k p q = lt-yes 0 (2 * overflow f) (twice-pos 
 lt-spot f (inf false) (inf true) h k p q = lt-nay (2 * overflow f) 0 zero-le
 lt-spot f (inf false) (inf false) h k p q = lt-nay (2 * overflow f) (2 * overflow f) (le-refl (2 * overflow f))
 lt-spot f (inf true) (fin t n d) h k p q = lt-yes 0 (onLine (overflow f) t (quanta f n d)) (line-pos (overflow f) t (quanta f n d) (quanta-lt f t n d k))
-lt-spot f (inf false) (fin t n d) h k p q = lt-nay (2 * overflow f) (onLine (overflow f) t (quanta f n d)) (le-of-lt (line-lt (overflow f) t (quanta f n d) (quanta-lt f t n d k)))
+lt-spot f (inf false) (fin t n d) h k p q = lt-nay (2 * overflow f) (onLine (overflow f) t (quanta f n d))
+    (le-of-lt (line-lt (overflow f) t (quanta f n d) (quanta-lt f t n d k)))
 lt-spot f (fin s m e) nan h k p q = absurd q
 lt-spot f (fin s m e) (inf true) h k p q = lt-nay (onLine (overflow f) s (quanta f m e)) 0 zero-le
-lt-spot f (fin s m e) (inf false) h k p q = lt-yes (onLine (overflow f) s (quanta f m e)) (2 * overflow f) (line-lt (overflow f) s (quanta f m e) (quanta-lt f s m e h))
+lt-spot f (fin s m e) (inf false) h k p q = lt-yes (onLine (overflow f) s (quanta f m e)) (2 * overflow f)
+    (line-lt (overflow f) s (quanta f m e) (quanta-lt f s m e h))
 lt-spot f (fin s m e) (fin t n d) h k p q =
     below-scale s t (scaled f s m e t n d h k) ∙ below-line (overflow f) s t (quanta f m e) (quanta f n d) (quanta-lt f s m e h) (quanta-lt f t n d k)
 
@@ -241,11 +257,15 @@ eq-spot f (inf true) (inf true) h k p q = refl
 eq-spot f (inf true) (inf false) h k p q = eq-nay 0 (2 * overflow f) (lt-eq 0 (2 * overflow f) (twice-pos (overflow f) (over-pos f)))
 eq-spot f (inf false) (inf true) h k p q = eq-nay (2 * overflow f) 0 (gt-eq (2 * overflow f) 0 (twice-pos (overflow f) (over-pos f)))
 eq-spot f (inf false) (inf false) h k p q = yes (eqb (2 * overflow f) (2 * overflow f)) (eqb-refl (2 * overflow f))
-eq-spot f (inf true) (fin t n d) h k p q = eq-nay 0 (onLine (overflow f) t (quanta f n d)) (lt-eq 0 (onLine (overflow f) t (quanta f n d)) (line-pos (overflow f) t (quanta f n d) (quanta-lt f t n d k)))
-eq-spot f (inf false) (fin t n d) h k p q = eq-nay (2 * overflow f) (onLine (overflow f) t (quanta f n d)) (gt-eq (2 * overflow f) (onLine (overflow f) t (quanta f n d)) (line-lt (overflow f) t (quanta f n d) (quanta-lt f t n d k)))
+eq-spot f (inf true) (fin t n d) h k p q = eq-nay 0 (onLine (overflow f) t (quanta f n d))
+    (lt-eq 0 (onLine (overflow f) t (quanta f n d)) (line-pos (overflow f) t (quanta f n d) (quanta-lt f t n d k)))
+eq-spot f (inf false) (fin t n d) h k p q = eq-nay (2 * overflow f) (onLine (overflow f) t (quanta f n d))
+    (gt-eq (2 * overflow f) (onLine (overflow f) t (quanta f n d)) (line-lt (overflow f) t (quanta f n d) (quanta-lt f t n d k)))
 eq-spot f (fin s m e) nan h k p q = absurd q
-eq-spot f (fin s m e) (inf true) h k p q = eq-nay (onLine (overflow f) s (quanta f m e)) 0 (gt-eq (onLine (overflow f) s (quanta f m e)) 0 (line-pos (overflow f) s (quanta f m e) (quanta-lt f s m e h)))
-eq-spot f (fin s m e) (inf false) h k p q = eq-nay (onLine (overflow f) s (quanta f m e)) (2 * overflow f) (lt-eq (onLine (overflow f) s (quanta f m e)) (2 * overflow f) (line-lt (overflow f) s (quanta f m e) (quanta-lt f s m e h)))
+eq-spot f (fin s m e) (inf true) h k p q = eq-nay (onLine (overflow f) s (quanta f m e)) 0
+    (gt-eq (onLine (overflow f) s (quanta f m e)) 0 (line-pos (overflow f) s (quanta f m e) (quanta-lt f s m e h)))
+eq-spot f (fin s m e) (inf false) h k p q = eq-nay (onLine (overflow f) s (quanta f m e)) (2 * overflow f)
+    (lt-eq (onLine (overflow f) s (quanta f m e)) (2 * overflow f) (line-lt (overflow f) s (quanta f m e) (quanta-lt f s m e h)))
 eq-spot f (fin s m e) (fin t n d) h k p q =
     level-scale s t (scaled f s m e t n d h k) ∙ level-line (overflow f) s t (quanta f m e) (quanta f n d) (quanta-lt f s m e h) (quanta-lt f t n d k)
 

@@ -21,13 +21,13 @@ pick true x xs = x ∷ xs
 pick false x xs = xs
 
 -- those that pass, in their order
-abbrev pub keep : {A : Type 0} → (A → Bool) → List A → List A
-keep p [] = []
-keep p (x ∷ xs) = pick (p x) x (keep p xs)
+abbrev pub filter : {A : Type 0} → (A → Bool) → List A → List A
+filter p [] = []
+filter p (x ∷ xs) = pick (p x) x (filter p xs)
 
-abbrev pub gather : {A B : Type 0} → (A → List B) → List A → List B
-gather f [] = []
-gather f (x ∷ xs) = f x ++ gather f xs
+abbrev pub flatMap : {A B : Type 0} → (A → List B) → List A → List B
+flatMap f [] = []
+flatMap f (x ∷ xs) = f x ++ flatMap f xs
 
 -- n values, finite and at least 0
 abbrev pub amountsPass : ℕ → List Float → Bool

@@ -1,7 +1,11 @@
 -- The floor of a finite value whose sign is clear: clearing the fraction's bits in its pattern gives it. Assumes nothing.
 use mathlib.Core.Path.{_≡_, refl, sym, ap, ap₂, _∙_, subst}
 use Prim.Native.Nat.{ℕ, zero, suc, _+_, _-_, _*_, _/_, _%_, _^_, _≤_, _<_}
-use native.Mathlib.Nat.{le-of-eq, le-of-lt, le-trans, le-antisymm, lt-of-lt-of-le, lt-of-le-of-lt, lt-of-not-le, lt-irrefl, le-of-suc-le-suc, le-add-left, le-add-right, mul-comm, mul-assoc, mul-right-comm, mul-one, zero-lt-suc, lt-suc-self, mul-le-mul-right, mul-le-mul-left, mul-lt-mul-of-pos-right, mul-div-cancel, div-one, div-mul-le-self, div-div-eq-div-mul, div-eq-of-lt, le-div-iff-mul-le, div-lt-iff-lt-mul, sub-add-cancel, suc-mul, add-sub-cancel-left, mul-add-div-right, add-mul, zero-add, add-zero, add-comm, one-mul, zero-mul, mul-mod-left}
+use native.Mathlib.Nat.{le-of-eq, le-of-lt, le-trans, le-antisymm, lt-of-lt-of-le, lt-of-le-of-lt, lt-of-not-le, lt-irrefl}
+use native.Mathlib.Nat.{le-of-suc-le-suc, le-add-left, le-add-right, mul-comm, mul-assoc, mul-right-comm, mul-one, zero-lt-suc}
+use native.Mathlib.Nat.{lt-suc-self, mul-le-mul-right, mul-le-mul-left, mul-lt-mul-of-pos-right, mul-div-cancel, div-one, div-mul-le-self}
+use native.Mathlib.Nat.{div-div-eq-div-mul, div-eq-of-lt, le-div-iff-mul-le, div-lt-iff-lt-mul, sub-add-cancel, suc-mul}
+use native.Mathlib.Nat.{add-sub-cancel-left, mul-add-div-right, add-mul, zero-add, add-zero, add-comm, one-mul, zero-mul, mul-mod-left}
 use native.Mathlib.Omega.{arith}
 use mathlib.Core.Bool.{Bool, true, false, not, cond}
 use lib.IntN.{ℤ, pos, negsuc}
@@ -9,7 +13,8 @@ use lib.Dec.{T, leb, leb→le, nleb→lt, lit≤}
 use lib.Pow.{pow-add, pow-pos, pow-mono, shl-lt, shl-shr, shr-mod, mod-pow-add, ones-lt, ones-split, high-ones, low as digits-low}
 use lib.Bits.{bitAnd, and-mask, and-high}
 use lib.Arith.{digits-div}
-use lib.Ieee.{Float, nan, inf, fin, Format, binary32, binary64, prec, emax, low, up, down, size, round, ofInt, fits, isNan, hid, ones, top, toBits, ofBits, nanBits}
+use lib.Ieee.{Float, nan, inf, fin, Format, binary32, binary64, prec, emax, low, up, down, size, round, ofInt, fits, isNan, hid, ones, top}
+use lib.Ieee.{toBits, ofBits, nanBits}
 use lib.Ieee.Digits.{size-lt, size-le, size-reaches}
 use lib.Ieee.Fits.{two, reach, kept-lt, down-pos, ofInt-fits}
 use lib.Ieee.Exact.{HasValue, round-exact}
@@ -64,7 +69,8 @@ cut-units f i q P Q O e = go (leb l i) (leb→le l i) (nleb→lt l i)
         round-exact f false N 1 q i (zero-lt-suc 0) Q (subst (λ (x : ℕ). x < overflow f) n cut-lt) (n ∙ sym (mul-one (q * 2 ^ i)))
     go false a c =
         round-exact f false N 1 N l (zero-lt-suc 0)
-        (div-lt-iff-lt-mul (pow-pos l) .1 (subst (λ (x : ℕ). x < 2 ^ prec f * 2 ^ l) (sym e) (lt-of-lt-of-le (mul-lt-mul-of-pos-right Q (pow-pos i)) (mul-le-mul-left (2 ^ prec f) (pow-mono (le-of-lt (c tt)))))))
+        (div-lt-iff-lt-mul (pow-pos l) .1 (subst (λ (x : ℕ). x < 2 ^ prec f * 2 ^ l) (sym e)
+        (lt-of-lt-of-le (mul-lt-mul-of-pos-right Q (pow-pos i)) (mul-le-mul-left (2 ^ prec f) (pow-mono (le-of-lt (c tt)))))))
         cut-lt (sym (mul-one (N * 2 ^ l)))
 
 cut-fits : (f : Format) (m : ℕ) (e : ℤ) → T (fits f (cut f m e))
@@ -75,7 +81,8 @@ cut-value : (f : Format) (m : ℕ) (e : ℤ) → T (fits f (fin false m e)) → 
 cut-value f m e h =
     let z = quanta-shifted f m e h in
     subst (λ (x : Float). HasValue x false (m * up e / down e) 1) (sym rounded)
-    (subst (λ (n : ℕ). HasValue (round f false n 1) false n 1) (sym (whole-part f m e h)) (cut-units f (z .0) (z .1) (quanta f m e) (z .2) (quanta-lt f false m e h) (z .3)))
+    (subst (λ (n : ℕ). HasValue (round f false n 1) false n 1) (sym (whole-part f m e h))
+    (cut-units f (z .0) (z .1) (quanta f m e) (z .2) (quanta-lt f false m e h) (z .3)))
   where
     rounded : cut f m e ≡ round f false (m * up e / down e) 1
     rounded = unfold cut ofInt in refl
@@ -88,7 +95,9 @@ value-bits f (fin s m e) a v =
     toBits-enc f s m e ∙ ap₂ (λ (b : Bool) (n : ℕ). cond b (top f) 0 + enc f n) (v .0) units ∙ zero-add (enc f (a * 2 ^ low f))
   where
     units : quanta f m e ≡ a * 2 ^ low f
-    units = unfold quanta in ap (λ (x : ℕ). x * 2 ^ low f / down e) (sym (mul-one (m * up e)) ∙ v .1) ∙ ap (λ (x : ℕ). x / down e) (mul-right-comm a (down e) (2 ^ low f)) ∙ mul-div-cancel (a * 2 ^ low f) (down-pos e)
+    units =
+        unfold quanta in ap (λ (x : ℕ). x * 2 ^ low f / down e) (sym (mul-one (m * up e)) ∙ v .1)
+        ∙ ap (λ (x : ℕ). x / down e) (mul-right-comm a (down e) (2 ^ low f)) ∙ mul-div-cancel (a * 2 ^ low f) (down-pos e)
 
 cut-bits : (f : Format) (m : ℕ) (e : ℤ) → T (fits f (fin false m e)) → toBits f (cut f m e) ≡ enc f (quanta f m e / 2 ^ low f * 2 ^ low f)
 cut-bits f m e h = value-bits f (cut f m e) (m * up e / down e) (cut-value f m e h) ∙ ap (λ (n : ℕ). enc f (n * 2 ^ low f)) (whole-part f m e h)
@@ -107,7 +116,9 @@ module _ (f : Format) (n j : ℕ) (z : size n ≡ prec f + j) where
   enc-at = ap (λ (k : ℕ). k * hid f + n / 2 ^ k) (ap (λ (y : ℕ). y - prec f) z ∙ add-sub-cancel-left (prec f) j)
 
   kept-ge : hid f ≤ n / 2 ^ j
-  kept-ge = le-div-iff-mul-le (pow-pos j) .1 (le-trans (le-of-eq (sym (pow-add 2 (prec f - 1) j))) (size-reaches n (prec f - 1 + j) (subst (λ (x : ℕ). prec f - 1 + j < x) (sym z) (less (prec f) j (two f)))))
+  kept-ge =
+      le-div-iff-mul-le (pow-pos j) .1 (le-trans (le-of-eq (sym (pow-add 2 (prec f - 1) j)))
+      (size-reaches n (prec f - 1 + j) (subst (λ (x : ℕ). prec f - 1 + j < x) (sym z) (less (prec f) j (two f)))))
     where
       less : (p j : ℕ) → 2 ≤ p → p - 1 + j < p + j
       less p j h = omega arith
@@ -132,7 +143,9 @@ enc-clear f n j k z h =
     let q' = q / 2 ^ k * 2 ^ k in
     let n' = n / 2 ^ (j + k) * 2 ^ (j + k) in
     let hid-is : hid f ≡ g * 2 ^ k = ap (λ (x : ℕ). 2 ^ x) (sym (sub-add-cancel h)) ∙ pow-add 2 (p - 1 - k) k in
-    let n'-is : n' ≡ q' * 2 ^ j = ap (λ (x : ℕ). n / x * x) (pow-add 2 j k) ∙ ap (λ (x : ℕ). x * (2 ^ j * 2 ^ k)) (sym (div-div-eq-div-mul n (2 ^ j) (2 ^ k))) ∙ ap (λ (x : ℕ). q / 2 ^ k * x) (mul-comm (2 ^ j) (2 ^ k)) ∙ sym (mul-assoc (q / 2 ^ k) (2 ^ k) (2 ^ j)) in
+    let n'-is : n' ≡ q' * 2 ^ j = ap (λ (x : ℕ). n / x * x) (pow-add 2 j k)
+    ∙ ap (λ (x : ℕ). x * (2 ^ j * 2 ^ k)) (sym (div-div-eq-div-mul n (2 ^ j) (2 ^ k)))
+    ∙ ap (λ (x : ℕ). q / 2 ^ k * x) (mul-comm (2 ^ j) (2 ^ k)) ∙ sym (mul-assoc (q / 2 ^ k) (2 ^ k) (2 ^ j)) in
     let q'-ge : hid f ≤ q' = subst (λ (x : ℕ). x ≤ q') (sym hid-is) (clear-keeps g k q (subst (λ (x : ℕ). x ≤ q) hid-is (kept-ge f n j z))) in
     let q'-lt : q' < 2 ^ p = lt-of-le-of-lt (div-mul-le-self q (2 ^ k)) (kept-below f n j z) in
     let z' : size n' ≡ p + j = size-exact (p - 1 + j) n'
@@ -150,7 +163,9 @@ enc-clear f n j k z h =
 -- ---- the exponent's field of a pattern with no sign
 -- from one on a number is in the normal range, and the field is one more than the digits that it drops
 field-is : (f : Format) (n j : ℕ) → size n ≡ prec f + j → enc f n / hid f ≡ suc j
-field-is f n j z = ap (λ (x : ℕ). x / hid f) (enc-at f n j z ∙ lead) ∙ digits-div (suc j) (under (hid f) (n / 2 ^ j) (2 ^ prec f) (twice-hid f) (kept-below f n j z))
+field-is f n j z =
+    ap (λ (x : ℕ). x / hid f) (enc-at f n j z ∙ lead) ∙ digits-div (suc j) (under (hid f) (n / 2 ^ j) (2 ^ prec f) (twice-hid f)
+    (kept-below f n j z))
   where
     carry : (a h q : ℕ) → h ≤ q → a + q ≡ a + h + (q - h)
     carry a h q l = omega arith
@@ -181,7 +196,8 @@ module _ (f : Format) (n : ℕ) (h : 2 ^ low f ≤ n) where
 field-lt : (f : Format) (n : ℕ) → n < 2 ^ low f → enc f n / hid f < emax f
 unfolding enc
 field-lt f n h =
-    lt-of-lt-of-le (div-lt-iff-lt-mul (pow-pos (prec f - 1)) .1 (subst (λ (x : ℕ). k * hid f + n / 2 ^ k < x) (sym (add-mul k 2 (hid f))) (add-lt (k * hid f) (n / 2 ^ k) (2 ^ prec f) (2 * hid f) (twice-hid f) (kept-lt (prec f) n))))
+    lt-of-lt-of-le (div-lt-iff-lt-mul (pow-pos (prec f - 1)) .1 (subst (λ (x : ℕ). k * hid f + n / 2 ^ k < x) (sym (add-mul k 2 (hid f)))
+    (add-lt (k * hid f) (n / 2 ^ k) (2 ^ prec f) (2 * hid f) (twice-hid f) (kept-lt (prec f) n))))
     (few (size n) (prec f) (emax f) (two f) (more f) (size-le n (low f) h))
   where
     k : ℕ
@@ -206,12 +222,17 @@ module _ (f : Format) (m : ℕ) (e : ℤ) (F : T (fits f (fin false m e))) where
   fields-are = ap (λ (x : ℕ). x / hid f) bits-are
 
   below-one : toBits f (fin false m e) / hid f < emax f → quanta f m e < 2 ^ low f
-  below-one l = lt-of-not-le (λ (g : 2 ^ low f ≤ quanta f m e). lt-irrefl (emax f) (lt-of-le-of-lt (field-ge f (quanta f m e) g) (subst (λ (x : ℕ). x < emax f) fields-are l)))
+  below-one l =
+      lt-of-not-le (λ (g : 2 ^ low f ≤ quanta f m e). lt-irrefl (emax f) (lt-of-le-of-lt (field-ge f (quanta f m e) g)
+      (subst (λ (x : ℕ). x < emax f) fields-are l)))
 
   from-one : emax f ≤ toBits f (fin false m e) / hid f → 2 ^ low f ≤ quanta f m e
-  from-one l = le-of-suc-le-suc (lt-of-not-le (λ (g : suc (quanta f m e) ≤ 2 ^ low f). lt-irrefl (emax f) (lt-of-le-of-lt (subst (λ (x : ℕ). emax f ≤ x) fields-are l) (field-lt f (quanta f m e) g))))
+  from-one l =
+      le-of-suc-le-suc (lt-of-not-le (λ (g : suc (quanta f m e) ≤ 2 ^ low f). lt-irrefl (emax f)
+      (lt-of-le-of-lt (subst (λ (x : ℕ). emax f ≤ x) fields-are l) (field-lt f (quanta f m e) g))))
 
-  cut-clear : emax f ≤ toBits f (fin false m e) / hid f → (k : ℕ) → k + toBits f (fin false m e) / hid f ≡ suc (low f) → ofBits f (toBits f (fin false m e) / 2 ^ k * 2 ^ k) ≡ cut f m e
+  cut-clear : emax f ≤ toBits f (fin false m e) / hid f → (k : ℕ) → k + toBits f (fin false m e) / hid f ≡ suc (low f)
+      → ofBits f (toBits f (fin false m e) / 2 ^ k * 2 ^ k) ≡ cut f m e
   cut-clear l k h =
       let n = quanta f m e in
       let o = from-one l in
@@ -241,7 +262,8 @@ module _ (f : Format) (m : ℕ) (e : ℤ) (F : T (fits f (fin false m e))) where
       let o : 2 ^ low f ≤ n = from-one (le-trans (near (prec f) (emax f) (two f)) h) in
       let g : low f ≤ i = far (size n) (prec f) i (low f) s (subst (λ (x : ℕ). suc (low f) ≤ x) (fields-are ∙ field-above f n o) h) in
       sym (ofBits-toBits f (cut f m e) (cut-fits f m e))
-      ∙ ap (ofBits f) (cut-bits f m e F ∙ ap (enc f) (ap (λ (x : ℕ). x / 2 ^ low f * 2 ^ low f) (z .3) ∙ cut-none (z .1) i (low f) g ∙ sym (z .3)) ∙ sym bits-are)
+      ∙ ap (ofBits f) (cut-bits f m e F ∙ ap (enc f) (ap (λ (x : ℕ). x / 2 ^ low f * 2 ^ low f) (z .3) ∙ cut-none (z .1) i (low f) g
+      ∙ sym (z .3)) ∙ sym bits-are)
       ∙ ofBits-toBits f (fin false m e) F
     where
       near : (p e : ℕ) → 2 ≤ p → e ≤ suc (e + p - 2)
@@ -254,11 +276,13 @@ module _ (f : Format) (m : ℕ) (e : ℤ) (F : T (fits f (fin false m e))) where
 high : (f : Format) (b : ℕ) → ones f * hid f ≤ b → b / hid f < ones f → ⊥
 high f b g l = lt-irrefl (ones f) (lt-of-le-of-lt (le-div-iff-mul-le (pow-pos (prec f - 1)) .1 g) l)
 
-plain : (f : Format) (P : Float → Type 0) → ((m : ℕ) (e : ℤ) → T (fits f (fin false m e)) → P (fin false m e)) → (x : Float) → Good f x → toBits f x / hid f < ones f → P x
+plain : (f : Format) (P : Float → Type 0) → ((m : ℕ) (e : ℤ) → T (fits f (fin false m e)) → P (fin false m e)) → (x : Float) → Good f x
+    → toBits f x / hid f < ones f → P x
 unfolding isNan
 plain f P h nan p l = absurd (p .1)
 plain f P h (inf s) p l = absurd (high f (toBits f (inf s)) (unfold toBits in le-add-left (ones f * hid f) (cond s (top f) 0)) l)
-plain f P h (fin true m e) p l = absurd (high f (toBits f (fin true m e)) (le-trans (le-trans below (le-add-right (top f) (enc f (quanta f m e)))) (le-of-eq (sym (toBits-enc f true m e)))) l)
+plain f P h (fin true m e) p l = absurd (high f (toBits f (fin true m e)) (le-trans (le-trans below
+    (le-add-right (top f) (enc f (quanta f m e)))) (le-of-eq (sym (toBits-enc f true m e)))) l)
   where
     below : ones f * hid f ≤ top f
     below = le-trans (mul-le-mul-right (hid f) (le-of-lt (lt-suc-self (ones f)))) (le-of-eq (mul-comm (suc (ones f)) (hid f)))
@@ -276,14 +300,18 @@ mask-clears j k b h = ap (bitAnd b) mask ∙ and-high b j k ∙ ap (λ (x : ℕ)
     ones = ap (λ (i : ℕ). (2 ^ i - 1) % 2 ^ j) (add-comm j k) ∙ ap (λ (x : ℕ). x % 2 ^ j) (ones-split k j) ∙ digits-low (2 ^ k - 1) j (ones-lt j)
 
     mask : n * 2 ^ k % 2 ^ (j + k) ≡ 2 ^ (j + k) - 2 ^ k
-    mask = mod-pow-add (n * 2 ^ k) j k ∙ ap₂ (λ (x y : ℕ). x % 2 ^ j * 2 ^ k + y) (shl-shr n k) (mul-mod-left n (2 ^ k)) ∙ add-zero (n % 2 ^ j * 2 ^ k) ∙ ap (λ (x : ℕ). x * 2 ^ k) ones ∙ sym (high-ones j k)
+    mask =
+        mod-pow-add (n * 2 ^ k) j k ∙ ap₂ (λ (x y : ℕ). x % 2 ^ j * 2 ^ k + y) (shl-shr n k) (mul-mod-left n (2 ^ k))
+        ∙ add-zero (n % 2 ^ j * 2 ^ k) ∙ ap (λ (x : ℕ). x * 2 ^ k) ones ∙ sym (high-ones j k)
 
 -- the highest of k + 1 digits
 highest : (b k : ℕ) → bitAnd b (2 ^ (1 + k) - 2 ^ k) ≡ b / 2 ^ k % 2 * 2 ^ k
 highest b k = and-high b 1 k
 
 highest-clear : (b k : ℕ) → b < 2 ^ (1 + k) → bitAnd b (2 ^ (1 + k) - 2 ^ k) ≡ 0 → b < 2 ^ k
-highest-clear b k h e = lt-of-not-le (λ (g : 2 ^ k ≤ b). lt-irrefl 0 (lt-of-lt-of-le (pow-pos k) (le-trans (le-trans (le-of-eq (sym (one-mul (2 ^ k)))) (kept g)) (le-of-eq gone))))
+highest-clear b k h e =
+    lt-of-not-le (λ (g : 2 ^ k ≤ b). lt-irrefl 0 (lt-of-lt-of-le (pow-pos k) (le-trans
+    (le-trans (le-of-eq (sym (one-mul (2 ^ k)))) (kept g)) (le-of-eq gone))))
   where
     kept : 2 ^ k ≤ b → 1 * 2 ^ k ≤ b / 2 ^ k * 2 ^ k
     kept g = mul-le-mul-right (2 ^ k) (le-div-iff-mul-le (pow-pos k) .1 (le-trans (le-of-eq (one-mul (2 ^ k))) g))
@@ -339,7 +367,8 @@ module _ (x : Float) (p : Good binary64 x) (c : sign64 x ≡ 0) where
   floor64-small h =
       let l = subst (λ (n : ℕ). n < 1023) field-alone h in
       plain binary64 (λ (x : Float). toBits binary64 x / 2 ^ 52 < 1023 → plusZero ≡ floorOf x)
-      (λ m e F l. ap (λ (n : ℕ). ofInt binary64 (pos n)) (sym (whole-part binary64 m e F ∙ div-eq-of-lt (below-one binary64 m e F l)))) x p (lt-of-lt-of-le l (lit≤ tt)) l
+      (λ m e F l. ap (λ (n : ℕ). ofInt binary64 (pos n)) (sym (whole-part binary64 m e F ∙ div-eq-of-lt (below-one binary64 m e F l)))) x p
+      (lt-of-lt-of-le l (lit≤ tt)) l
 
   -- the bits from the fraction's on
   module _ (h : field64 x < 1075) (l : 1023 ≤ field64 x) where
@@ -362,10 +391,14 @@ module _ (x : Float) (p : Good binary64 x) (c : sign64 x ≡ 0) where
     unfolding floorOf cut
     floor64-cut =
         ap (ofBits binary64) (bits-kept ∙ ap (λ (e : ℕ). toBits binary64 x / 2 ^ (1075 - e) * 2 ^ (1075 - e)) field-alone)
-        ∙ plain binary64 (λ (x : Float). toBits binary64 x / 2 ^ 52 < 1075 → 1023 ≤ toBits binary64 x / 2 ^ 52 → ofBits binary64 (toBits binary64 x / 2 ^ (1075 - toBits binary64 x / 2 ^ 52) * 2 ^ (1075 - toBits binary64 x / 2 ^ 52)) ≡ floorOf x)
-        (λ m e F h l. cut-clear binary64 m e F l (1075 - toBits binary64 (fin false m e) / 2 ^ 52) (sub-add-cancel (le-of-lt h))) x p (lt-of-lt-of-le below (lit≤ tt)) below (subst (λ (n : ℕ). 1023 ≤ n) field-alone l)
+        ∙ plain binary64 (λ (x : Float). toBits binary64 x / 2 ^ 52 < 1075 → 1023 ≤ toBits binary64 x / 2 ^ 52
+        → ofBits binary64 (toBits binary64 x / 2 ^ (1075 - toBits binary64 x / 2 ^ 52) * 2 ^ (1075 - toBits binary64 x / 2 ^ 52))
+        ≡ floorOf x)
+        (λ m e F h l. cut-clear binary64 m e F l (1075 - toBits binary64 (fin false m e) / 2 ^ 52) (sub-add-cancel (le-of-lt h))) x p
+        (lt-of-lt-of-le below (lit≤ tt)) below (subst (λ (n : ℕ). 1023 ≤ n) field-alone l)
 
     pub floor64-real : T (not (nanBits binary64 kept))
     floor64-real =
         subst (λ (t : Bool). T (not t)) (sym (nanBits-is binary64 kept ∙ ap isNan floor64-cut))
-        (plain binary64 (λ (x : Float). T (not (isNan (floorOf x)))) (λ m e F. has-value (floorOf (fin false m e)) false (m * up e / down e) 1 (floor-value m e F)) x p (lt-of-lt-of-le below (lit≤ tt)))
+        (plain binary64 (λ (x : Float). T (not (isNan (floorOf x)))) (λ m e F. has-value (floorOf (fin false m e)) false
+        (m * up e / down e) 1 (floor-value m e F)) x p (lt-of-lt-of-le below (lit≤ tt)))

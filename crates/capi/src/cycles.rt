@@ -6,8 +6,8 @@ ghost use mathlib.Core.List.{[]};
 ghost use lib.ListN.{length};
 ghost use Rattle.refusal.specs.Result.{number, valueOr};
 ghost use Rattle.capi_kernel.specs.Cells.{kernelAt};
-ghost use Rattle.capi_run.specs.Run.{windowOf};
-ghost use Rattle.cycle.specs.Closed.{steadyReplyOf, answerAtExit};
+ghost use Rattle.capi_run.specs.Run.{windowFrom};
+ghost use Rattle.cycle.specs.Closed.{steadyReportOf, answerAtExit};
 ghost use Rattle.capi_fold.specs.Words.{foldWords, cellsOf};
 ghost use Rattle.periodic_acceptance.specs.Entry.{steadyRoom};
 ghost use Rattle.capi_steady.specs.Words.{steadyWords};
@@ -27,9 +27,13 @@ pub extern "C" fn linear_pk_normalize_periodic_cycle(
     folded: &mut [u64],
     count: &mut usize,
 ) -> u64
-    ensures { λ r. ⌜ r ≡ number (foldWords (kernelAt (now (kernel .entry))) (windowOf start end rtol atol propagations «event_budget» «output_budget») (now (events .entry)) (now (samples .entry)) (length (now (folded .entry)))) ⌝ }
-    ensures { λ r. ⌜ now (count .exit) ≡ length (valueOr (foldWords (kernelAt (now (kernel .entry))) (windowOf start end rtol atol propagations «event_budget» «output_budget») (now (events .entry)) (now (samples .entry)) (length (now (folded .entry)))) []) ⌝ }
-    ensures { λ r. ⌜ now (folded .exit) ≡ cellsOf (foldWords (kernelAt (now (kernel .entry))) (windowOf start end rtol atol propagations «event_budget» «output_budget») (now (events .entry)) (now (samples .entry)) (length (now (folded .entry)))) (now (folded .entry)) ⌝ }
+    ensures { λ r. ⌜ r ≡ number (foldWords (kernelAt (now (kernel .entry))) (windowFrom start end rtol atol propagations «event_budget» «output_budget») (now (events .entry)) (now (samples .entry)) (length (now (folded .entry)))) ⌝ }
+    ensures { λ r. ⌜ now (count .exit) ≡ length (valueOr (foldWords (kernelAt (now (kernel .entry)))
+        (windowFrom start end rtol atol propagations «event_budget» «output_budget») (now (events .entry)) (now (samples .entry))
+        (length (now (folded .entry)))) []) ⌝ }
+    ensures { λ r. ⌜ now (folded .exit) ≡ cellsOf (foldWords (kernelAt (now (kernel .entry)))
+        (windowFrom start end rtol atol propagations «event_budget» «output_budget») (now (events .entry)) (now (samples .entry))
+        (length (now (folded .entry)))) (now (folded .entry)) ⌝ }
 {
     let window = Window {
         start,
@@ -71,12 +75,19 @@ pub extern "C" fn linear_pk_periodic_steady_state(
     time: &mut f64,
     maximum: &mut f64,
 ) -> u64
-    ensures { λ r. ⌜ record { number = r; time = now (time .exit); greatest = now (maximum .exit) } ≡ steadyReplyOf (steadyWords (kernelAt (now (kernel .entry)))
-        (windowOf start end rtol atol propagations «event_budget» «output_budget») (now (samples .entry)) (now (events .entry)) (record { absolute = absolute; relative = relative }) (steadyRoom (kernelAt (now (kernel .entry))) (length (now (amounts .entry))) (length (now (residual .entry))))) ⌝ }
+    ensures { λ r. ⌜ record { number = r; time = now (time .exit); maximum = now (maximum .exit) }
+        ≡ steadyReportOf (steadyWords (kernelAt (now (kernel .entry)))
+        (windowFrom start end rtol atol propagations «event_budget» «output_budget») (now (samples .entry)) (now (events .entry))
+        (record { absolute = absolute; relative = relative }) (steadyRoom (kernelAt (now (kernel .entry)))
+        (length (now (amounts .entry))) (length (now (residual .entry))))) ⌝ }
     ensures { λ r. ⌜ now (amounts .exit) ≡ answerAtExit (λ s. s .amounts) (steadyWords (kernelAt (now (kernel .entry)))
-        (windowOf start end rtol atol propagations «event_budget» «output_budget») (now (samples .entry)) (now (events .entry)) (record { absolute = absolute; relative = relative }) (steadyRoom (kernelAt (now (kernel .entry))) (length (now (amounts .entry))) (length (now (residual .entry))))) (now (amounts .entry)) ⌝ }
+        (windowFrom start end rtol atol propagations «event_budget» «output_budget») (now (samples .entry)) (now (events .entry))
+        (record { absolute = absolute; relative = relative }) (steadyRoom (kernelAt (now (kernel .entry)))
+        (length (now (amounts .entry))) (length (now (residual .entry))))) (now (amounts .entry)) ⌝ }
     ensures { λ r. ⌜ now (residual .exit) ≡ answerAtExit (λ s. s .residuals) (steadyWords (kernelAt (now (kernel .entry)))
-        (windowOf start end rtol atol propagations «event_budget» «output_budget») (now (samples .entry)) (now (events .entry)) (record { absolute = absolute; relative = relative }) (steadyRoom (kernelAt (now (kernel .entry))) (length (now (amounts .entry))) (length (now (residual .entry))))) (now (residual .entry)) ⌝ }
+        (windowFrom start end rtol atol propagations «event_budget» «output_budget») (now (samples .entry)) (now (events .entry))
+        (record { absolute = absolute; relative = relative }) (steadyRoom (kernelAt (now (kernel .entry)))
+        (length (now (amounts .entry))) (length (now (residual .entry))))) (now (residual .entry)) ⌝ }
 {
     let window = Window {
         start,

@@ -5,10 +5,10 @@ ghost use lib.ListN.{length};
 ghost use Rattle.linear_pk.specs.LinearPk.{stateCount};
 ghost use Rattle.events_layout.specs.Layout.{eventsOf};
 ghost use Rattle.protocol.specs.Prepare.{reckoned};
-ghost use Rattle.protocol.specs.Entry.{replyOf, timesAtExit, sidesAtExit, valuesAtExit};
+ghost use Rattle.protocol.specs.Entry.{reportOf, timesAtExit, sidesAtExit, valuesAtExit};
 ghost use Rattle.simulation_report.specs.Replies.{room};
 ghost use Rattle.capi_kernel.specs.Cells.{kernelAt};
-ghost use Rattle.capi_run.specs.Run.{windowOf, simulateWords};
+ghost use Rattle.capi_run.specs.Run.{windowFrom, simulateWords};
 
 #[no_mangle]
 pub extern "C" fn linear_pk_simulate(
@@ -30,14 +30,22 @@ pub extern "C" fn linear_pk_simulate(
     rows: &mut usize,
     advances: &mut u64,
 ) -> u64
-    ensures { λ r. ⌜ record { number = r; time = now (time .exit); rows = now (rows .exit); advances = now (advances .exit) } ≡ replyOf (simulateWords (kernelAt (now (kernel .entry))) (now (amounts .entry))
-        (windowOf start end rtol atol propagations «event_budget» «output_budget») (now (events .entry)) (now (samples .entry)) (room (length (now (times .entry))) (length (now (sides .entry))) (length (now (values .entry))))) ⌝ }
-    ensures { λ r. ⌜ now (times .exit) ≡ timesAtExit (reckoned (now (samples .entry)) (eventsOf (now (events .entry)))) (simulateWords (kernelAt (now (kernel .entry))) (now (amounts .entry))
-        (windowOf start end rtol atol propagations «event_budget» «output_budget») (now (events .entry)) (now (samples .entry)) (room (length (now (times .entry))) (length (now (sides .entry))) (length (now (values .entry))))) (now (times .entry)) ⌝ }
-    ensures { λ r. ⌜ now (sides .exit) ≡ sidesAtExit (reckoned (now (samples .entry)) (eventsOf (now (events .entry)))) (simulateWords (kernelAt (now (kernel .entry))) (now (amounts .entry))
-        (windowOf start end rtol atol propagations «event_budget» «output_budget») (now (events .entry)) (now (samples .entry)) (room (length (now (times .entry))) (length (now (sides .entry))) (length (now (values .entry))))) (now (sides .entry)) ⌝ }
-    ensures { λ r. ⌜ now (values .exit) ≡ valuesAtExit (reckoned (now (samples .entry)) (eventsOf (now (events .entry)))) (stateCount (kernelAt (now (kernel .entry)))) (simulateWords (kernelAt (now (kernel .entry))) (now (amounts .entry))
-        (windowOf start end rtol atol propagations «event_budget» «output_budget») (now (events .entry)) (now (samples .entry)) (room (length (now (times .entry))) (length (now (sides .entry))) (length (now (values .entry))))) (now (values .entry)) ⌝ }
+    ensures { λ r. ⌜ record { number = r; time = now (time .exit); rows = now (rows .exit); advances = now (advances .exit) }
+        ≡ reportOf (simulateWords (kernelAt (now (kernel .entry))) (now (amounts .entry))
+        (windowFrom start end rtol atol propagations «event_budget» «output_budget») (now (events .entry)) (now (samples .entry))
+        (room (length (now (times .entry))) (length (now (sides .entry))) (length (now (values .entry))))) ⌝ }
+    ensures { λ r. ⌜ now (times .exit) ≡ timesAtExit (reckoned (now (samples .entry)) (eventsOf (now (events .entry))))
+        (simulateWords (kernelAt (now (kernel .entry))) (now (amounts .entry))
+        (windowFrom start end rtol atol propagations «event_budget» «output_budget») (now (events .entry)) (now (samples .entry))
+        (room (length (now (times .entry))) (length (now (sides .entry))) (length (now (values .entry))))) (now (times .entry)) ⌝ }
+    ensures { λ r. ⌜ now (sides .exit) ≡ sidesAtExit (reckoned (now (samples .entry)) (eventsOf (now (events .entry))))
+        (simulateWords (kernelAt (now (kernel .entry))) (now (amounts .entry))
+        (windowFrom start end rtol atol propagations «event_budget» «output_budget») (now (events .entry)) (now (samples .entry))
+        (room (length (now (times .entry))) (length (now (sides .entry))) (length (now (values .entry))))) (now (sides .entry)) ⌝ }
+    ensures { λ r. ⌜ now (values .exit) ≡ valuesAtExit (reckoned (now (samples .entry)) (eventsOf (now (events .entry))))
+        (stateCount (kernelAt (now (kernel .entry)))) (simulateWords (kernelAt (now (kernel .entry))) (now (amounts .entry))
+        (windowFrom start end rtol atol propagations «event_budget» «output_budget») (now (events .entry)) (now (samples .entry))
+        (room (length (now (times .entry))) (length (now (sides .entry))) (length (now (values .entry))))) (now (values .entry)) ⌝ }
 {
     let window = Window {
         start,

@@ -11,6 +11,7 @@ use lib.Dec.{leb, leb→le}
 use lib.ListN.{length, getD, take, length-append, length-take, length-map, List·getD-map}
 use lib.Seq.{take-suc, take-all, sets-eq}
 use lib.Ieee.{Float}
+use Rattle.limits.specs.Limits.{mostCycleEvents, mostEvents, eventSize}
 use Rattle.refusal.specs.Result.{Result, refused, done, andThen, unless, number, valueOr}
 use Rattle.refusal.specs.Numbers.{refusalNumber, resultOf}
 use Rattle.refusal.specs.declared.Refusal.{Refusal}
@@ -28,9 +29,8 @@ use Rattle.protocol.specs.Events.{noEvent}
 use Rattle.protocol.specs.declared.Event.{Event}
 use Rattle.protocol.specs.declared.Event.the-variants.{Bolus, Infusion, Reset}
 use Rattle.protocol.specs.declared.Window.{Window}
-use Rattle.cycle.specs.Fold.{mostCycleEvents}
-use Rattle.fold.specs.Entry.{foldEntry, filled, eventIn, Answer, answerOf, told}
-use Rattle.fold_list.specs.declared.Listed.{Listed}
+use Rattle.fold.specs.Entry.{foldEntry, filled, eventIn, Answer, answerOf, foldAnswer}
+use Rattle.fold_list.specs.declared.Place.{Place}
 use Rattle.fold_list.specs.declared.FoldedCycle.{FoldedCycle}
 use Rattle.fold.proofs.Listing.{over-count}
 use Rattle.capi_fold.specs.Words.{foldWords, cellsOf}
@@ -42,7 +42,7 @@ six (Bolus t i a) = refl
 six (Infusion t i a d) = refl
 six (Reset t i v o c) = refl
 
-pub words-length : (es : List Event) → length (listWords es) ≡ 6 * length es
+pub words-length : (es : List Event) → length (listWords es) ≡ eventSize * length es
 words-length [] = refl
 words-length (e ∷ es) = omega (arith, length-append (eventWords e) (listWords es), six e, words-length es)
 
@@ -55,16 +55,21 @@ words-snoc [] e = sym (append-nil (eventWords e))
 words-snoc (x ∷ es) e = append-assoc (eventWords x) (listWords es) (eventWords e) ∙ ap (_++_ (eventWords x)) (words-snoc es e)
 
 -- the words of the first i events stand in front
-module _ (list : List Listed) (old : List ℕ) where
+module _ (list : List Place) (old : List ℕ) where
   pub record Put (i at : ℕ) (out : List ℕ) : Type 0 where
     pub wrote : Wrote (listWords (take i (map eventIn list))) 0 old at out
-    pub place : at ≡ 6 * i
+    pub place : at ≡ eventSize * i
 
   pub put-start : Put 0 0 old
   put-start = record { wrote = wrote-none 0 old; place = refl }
 
-  pub put-more : (i at j : ℕ) (d : Listed) {out new : List ℕ} → i < length list → Put i at out → Wrote (eventWords (getD list i d .event)) at out j new → Put (i + 1) j new
-  put-more i at j d {out} {new} l h g = record { wrote = rw text at (wrote-both (h .wrote) g); place = omega (arith, h .place, g .place, six (getD list i d .event)) }
+  pub put-more : (i at j : ℕ) (d : Place) {out new : List ℕ} → i < length list → Put i at out
+      → Wrote (eventWords (getD list i d .event)) at out j new → Put (i + 1) j new
+  put-more i at j d {out} {new} l h g = record {
+    wrote = rw text at (wrote-both (h .wrote) g);
+    place = omega
+        (arith, h .place, g .place, six (getD list i d .event));
+  }
     where
       text : listWords (take i (map eventIn list)) ++ eventWords (getD list i d .event) ≡ listWords (take (i + 1) (map eventIn list))
       text =
@@ -81,33 +86,36 @@ module _ (k : LinearPk) (w : Window) (ws : List ℕ) (ss : List Float) (room : �
   unfit h = rw h
 
   -- the array that they are read into folds as they do
-  few : leb (eventCount ws) mostCycleEvents ≡ true → foldEntry k w ss (tabulate 192 (eventOrNone ws)) (eventCount ws) ≡ foldEntry k w ss (eventsOf ws) (eventCount ws)
+  few : leb (eventCount ws) mostCycleEvents ≡ true → foldEntry k w ss (tabulate mostEvents (eventOrNone ws)) (eventCount ws)
+      ≡ foldEntry k w ss (eventsOf ws) (eventCount ws)
   unfolding foldEntry eventsOf
   few e =
-      let l : eventCount ws ≤ 64 = leb→le (eventCount ws) 64 (rw e tt) in
-      let t : take (eventCount ws) (tabulate 192 (eventOrNone ws)) ≡ take (eventCount ws) (eventsOf ws) =
-      front-events 192 ws (omega arith) ∙ sym (take-all (eventCount ws) (eventsOf ws) (omega (arith, tabulate-length (eventOf ws) (eventCount ws)))) in
+      let l : eventCount ws ≤ mostCycleEvents = leb→le (eventCount ws) mostCycleEvents (rw e tt) in
+      let t : take (eventCount ws) (tabulate mostEvents (eventOrNone ws)) ≡ take (eventCount ws) (eventsOf ws) =
+      front-events mostEvents ws (omega arith) ∙ sym (take-all (eventCount ws) (eventsOf ws) (omega (arith, tabulate-length (eventOf ws) (eventCount ws)))) in
       rw t
 
-  read-in : foldEntry k w ss (tabulate 192 (eventOrNone ws)) (eventCount ws) ≡ foldEntry k w ss (eventsOf ws) (eventCount ws)
+  read-in : foldEntry k w ss (tabulate mostEvents (eventOrNone ws)) (eventCount ws) ≡ foldEntry k w ss (eventsOf ws) (eventCount ws)
   read-in = on (leb (eventCount ws) mostCycleEvents) refl
     where
-      on : (b : Bool) → leb (eventCount ws) mostCycleEvents ≡ b → foldEntry k w ss (tabulate 192 (eventOrNone ws)) (eventCount ws) ≡ foldEntry k w ss (eventsOf ws) (eventCount ws)
+      on : (b : Bool) → leb (eventCount ws) mostCycleEvents ≡ b
+          → foldEntry k w ss (tabulate mostEvents (eventOrNone ws)) (eventCount ws) ≡ foldEntry k w ss (eventsOf ws) (eventCount ws)
       on true e = few e
-      on false e = over-count k w ss (tabulate 192 (eventOrNone ws)) (eventCount ws) e ∙ sym (over-count k w ss (eventsOf ws) (eventCount ws) e)
+      on false e = over-count k w ss (tabulate mostEvents (eventOrNone ws)) (eventCount ws) e ∙ sym (over-count k w ss (eventsOf ws) (eventCount ws) e)
 
-  module _ (h : eventsFit ws ≡ true) (c : FoldedCycle) (a : told c ≡ answerOf (foldEntry k w ss (tabulate 192 (eventOrNone ws)) (eventCount ws))) where
+  module _ (h : eventsFit ws ≡ true) (c : FoldedCycle) (a : foldAnswer c
+      ≡ answerOf (foldEntry k w ss (tabulate mostEvents (eventOrNone ws)) (eventCount ws))) where
     abbrev listed : List Event
     listed = take (c .count) (map eventIn (c .events))
 
     abbrev entry : Result (List Event)
-    entry = foldEntry k w ss (tabulate 192 (eventOrNone ws)) (eventCount ws)
+    entry = foldEntry k w ss (tabulate mostEvents (eventOrNone ws)) (eventCount ws)
 
     result-is : resultOf (c .reply) listed ≡ entry
     unfolding answerOf
     result-is = ap (λ (x : Answer). x .result) a
 
-    fits-fold : foldWords k w ws ss room ≡ andThen (resultOf (c .reply) listed) (λ es. unless (leb (6 * length es) room) 4 es)
+    fits-fold : foldWords k w ws ss room ≡ andThen (resultOf (c .reply) listed) (λ es. unless (leb (eventSize * length es) room) 4 es)
     unfolding foldWords
     fits-fold = rw (h, ← read-in, ← result-is)
 
@@ -117,21 +125,29 @@ module _ (k : LinearPk) (w : Window) (ws : List ℕ) (ss : List Float) (room : �
     module _ (q : c .reply ≡ Done) where
       pub listed-count : c .count ≡ length listed
       unfolding answerOf
-      listed-count = ap (λ (x : Answer). x .count) a ∙ ap (λ (o : Result (List Event)). length (valueOr o [])) (sym result-is ∙ ap (λ (v : Reply). resultOf v listed) q)
+      listed-count =
+          ap (λ (x : Answer). x .count) a ∙ ap (λ (o : Result (List Event)). length (valueOr o []))
+          (sym result-is ∙ ap (λ (v : Reply). resultOf v listed) q)
 
-      pub count-room : c .count ≤ 192
+      pub count-room : c .count ≤ mostEvents
       unfolding answerOf filled
       count-room =
-          omega
-          (arith, listed-count, length-take (c .count) (map eventIn (c .events)), length-map (c .events) eventIn, ap (λ (x : Answer). length (x .places)) a ∙ tabulate-length (λ (i : ℕ). record { event = getD (valueOr entry []) i noEvent }) 192)
+          omega (
+            arith,
+            listed-count,
+            length-take (c .count) (map eventIn (c .events)),
+            length-map (c .events) eventIn,
+            ap (λ (x : Answer). length (x .places)) a ∙ tabulate-length (λ (i : ℕ). record
+                { event = getD (valueOr entry []) i noEvent }) mostEvents,
+          )
 
-      fold-listed : foldWords k w ws ss room ≡ unless (leb (6 * c .count) room) 4 listed
+      fold-listed : foldWords k w ws ss room ≡ unless (leb (eventSize * c .count) room) 4 listed
       fold-listed = fits-fold ∙ rw (q, ← listed-count)
 
-      pub fold-short : room < 6 * c .count → foldWords k w ws ss room ≡ refused 4
+      pub fold-short : room < eventSize * c .count → foldWords k w ws ss room ≡ refused 4
       fold-short l = fold-listed ∙ rw (lt-leb _ _ l)
 
-      pub fold-done : 6 * c .count ≤ room → foldWords k w ws ss room ≡ done listed
+      pub fold-done : eventSize * c .count ≤ room → foldWords k w ws ss room ≡ done listed
       fold-done l = fold-listed ∙ rw (le-leb _ _ l)
 
 -- ---- the three promises
@@ -139,7 +155,8 @@ pub refused-words : (n : ℕ) (old : List ℕ) {o : Result (List Event)} → o �
 unfolding cellsOf
 refused-words n old e = rw e (refl, (refl, refl))
 
-pub done-words : (es : List Event) (old new : List ℕ) {o : Result (List Event)} {count r : ℕ} → o ≡ done es → count ≡ length es → 6 * count ≤ length old → Wrote (listWords es) 0 old r new
+pub done-words : (es : List Event) (old new : List ℕ) {o : Result (List Event)} {count r : ℕ} → o ≡ done es → count ≡ length es
+    → eventSize * count ≤ length old → Wrote (listWords es) 0 old r new
     → (0 ≡ number o) × ((count ≡ length (valueOr o [])) × (new ≡ cellsOf o old))
 unfolding cellsOf
 done-words es old new e q l g = rw e (refl, (q, g .cells ∙ rw zero-add at (sets-eq (listWords es) old 0 (omega (arith, words-length es)))))

@@ -4,7 +4,8 @@ use Prim.Native.Nat.{ℕ, _*_}
 use lib.Dec.{leb}
 use lib.ListN.{length}
 use lib.Ieee.{Float}
-use Rattle.refusal.specs.Result.{Result, done, andThen, unless, laid}
+use Rattle.limits.specs.Limits.{eventSize}
+use Rattle.refusal.specs.Result.{Result, done, andThen, unless, sliceAtExit}
 use Rattle.linear_pk.specs.declared.kernel.LinearPk.{LinearPk}
 use Rattle.events_layout.specs.Layout.{eventCount, eventsFit, eventsOf}
 use Rattle.events_words.specs.Words.{listWords}
@@ -17,8 +18,8 @@ unfoldable pub foldWords : LinearPk → Window → List ℕ → List Float → �
 unfolding foldEntry
 foldWords k w ws ss room =
     andThen (unless (eventsFit ws) 40 ws)
-    (λ ws. andThen (foldEntry k w ss (eventsOf ws) (eventCount ws)) (λ es. unless (leb (6 * length es) room) 4 es))
+    (λ ws. andThen (foldEntry k w ss (eventsOf ws) (eventCount ws)) (λ es. unless (leb (eventSize * length es) room) 4 es))
 
 -- the folded list's words from the front on, the cells behind them as they were; all as they were at a refusal
 unfoldable pub cellsOf : Result (List Event) → List ℕ → List ℕ
-cellsOf o old = laid (andThen o (λ es. done (listWords es))) old
+cellsOf o old = sliceAtExit (andThen o (λ es. done (listWords es))) old

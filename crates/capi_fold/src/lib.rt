@@ -1,6 +1,7 @@
 // The folded cycle over words, six to an event, for the C interface.
-use events::EVENTS;
-use fold_list::Listed;
+use fold_list::Place;
+use limits::EVENT_SIZE;
+use limits::EVENTS;
 use linear_pk::LinearPk;
 use protocol::Window;
 use refusal::Refusal;
@@ -9,15 +10,13 @@ ghost use mathlib.Core.Path.{_≡_};
 ghost use mathlib.Core.List.{[], map};
 ghost use Prim.Native.Nat.{_≤_, _*_};
 ghost use lib.ListN.{length, take};
+ghost use Rattle.limits.specs.Limits.{mostEvents, eventSize};
 ghost use Rattle.refusal.specs.Numbers.{replyNumber};
 ghost use Rattle.refusal.specs.Result.{number, valueOr};
 ghost use Rattle.printout.specs.Cells.{Wrote};
 ghost use Rattle.events_words.specs.Words.{listWords};
 ghost use Rattle.fold_list.specs.Answers.{eventIn};
 ghost use Rattle.capi_fold.specs.Words.{foldWords, cellsOf};
-
-// Words of an event.
-const WORDS: usize = 6;
 
 // Whether the list is folded, and how many events it has.
 pub struct FoldedWords {
@@ -26,8 +25,8 @@ pub struct FoldedWords {
 }
 
 // The words of the first count events, from the front on.
-fn put_list(list: [Listed; EVENTS], count: usize, out: &mut [u64]) -> usize
-    requires { ⌜ (count ≤ 192) × (6 * count ≤ length (now out)) ⌝ }
+fn put_list(list: [Place; EVENTS], count: usize, out: &mut [u64]) -> usize
+    requires { ⌜ (count ≤ mostEvents) × (eventSize * count ≤ length (now out)) ⌝ }
     ensures { λ r. ⌜ Wrote (listWords (take count (map eventIn list))) 0 (now (out .entry)) r (now (out .exit)) ⌝ }
 {
     let mut at = 0usize;
@@ -49,7 +48,8 @@ pub fn fold_words(
 ) -> FoldedWords
     ensures { λ r. ⌜ replyNumber (r .reply) ≡ number (foldWords kernel window (now (events .entry)) (now (samples .entry)) (length (now (folded .entry)))) ⌝ }
     ensures { λ r. ⌜ r .count ≡ length (valueOr (foldWords kernel window (now (events .entry)) (now (samples .entry)) (length (now (folded .entry)))) []) ⌝ }
-    ensures { λ r. ⌜ now (folded .exit) ≡ cellsOf (foldWords kernel window (now (events .entry)) (now (samples .entry)) (length (now (folded .entry)))) (now (folded .entry)) ⌝ }
+    ensures { λ r. ⌜ now (folded .exit) ≡ cellsOf (foldWords kernel window (now (events .entry)) (now (samples .entry))
+        (length (now (folded .entry)))) (now (folded .entry)) ⌝ }
 {
     if !events_layout::events_fit(events) {
         return FoldedWords {
@@ -58,7 +58,13 @@ pub fn fold_words(
         };
     }
     let list = events_layout::events_of(events);
-    let cycle = fold::normalize_periodic_cycle(kernel, window, list, events.len() / WORDS, samples);
+    let cycle = fold::normalize_periodic_cycle(
+        kernel,
+        window,
+        list,
+        events.len() / EVENT_SIZE,
+        samples,
+    );
     let reply = cycle.reply;
     match reply {
         Reply::Refused(refusal) => FoldedWords {
@@ -67,7 +73,7 @@ pub fn fold_words(
         },
         Reply::Done => {
             let count = cycle.count;
-            if WORDS * count > folded.len() {
+            if EVENT_SIZE * count > folded.len() {
                 return FoldedWords {
                     reply: Reply::Refused(Refusal::ShortSlice),
                     count: 0,

@@ -1,12 +1,12 @@
 // A kernel and a bound kernel as cells, doubles in a slice.
-use capi_kernel_cells::BOUND;
-use capi_kernel_cells::KERNEL;
+use limits::BOUND_CELLS;
+use limits::KERNEL_CELLS;
 use linear_pk::LinearPk;
 use refusal::Refusal;
 use refusal::Reply;
 ghost use mathlib.Core.Path.{_≡_};
 ghost use lib.ListN.{length};
-ghost use Rattle.refusal.specs.Result.{number, laid};
+ghost use Rattle.refusal.specs.Result.{number, sliceAtExit};
 ghost use Rattle.capi_kernel.specs.Cells.{absorptionOf, kernelAt, newCells, bindCells};
 
 // The cells of a new kernel; the number of its refusal, 0 for none.
@@ -18,8 +18,10 @@ pub fn new(
     absorption: f64,
     kernel: &mut [f64],
 ) -> u64
-    ensures { λ r. ⌜ r ≡ number (newCells clearance (now (volumes .entry)) (now (exchange .entry)) (absorptionOf depot absorption) (length (now (kernel .entry)))) ⌝ }
-    ensures { λ r. ⌜ now (kernel .exit) ≡ laid (newCells clearance (now (volumes .entry)) (now (exchange .entry)) (absorptionOf depot absorption) (length (now (kernel .entry)))) (now (kernel .entry)) ⌝ }
+    ensures { λ r. ⌜ r ≡ number (newCells clearance (now (volumes .entry)) (now (exchange .entry)) (absorptionOf depot absorption)
+        (length (now (kernel .entry)))) ⌝ }
+    ensures { λ r. ⌜ now (kernel .exit) ≡ sliceAtExit (newCells clearance (now (volumes .entry)) (now (exchange .entry))
+        (absorptionOf depot absorption) (length (now (kernel .entry)))) (now (kernel .entry)) ⌝ }
 {
     let made = LinearPk::new(
         clearance,
@@ -31,7 +33,7 @@ pub fn new(
     match reply {
         Reply::Refused(refusal) => refusal::number(Reply::Refused(refusal)),
         Reply::Done => {
-            if kernel.len() < KERNEL {
+            if kernel.len() < KERNEL_CELLS {
                 return refusal::number(Reply::Refused(Refusal::ShortSlice));
             }
             let value = made.kernel;
@@ -45,14 +47,15 @@ pub fn new(
 // The cells of a kernel with its initial amounts; the number of its refusal, 0 for none.
 pub fn bind(kernel: &[f64], initial: &[f64], bound: &mut [f64]) -> u64
     ensures { λ r. ⌜ r ≡ number (bindCells (kernelAt (now (kernel .entry))) (now (initial .entry)) (length (now (bound .entry)))) ⌝ }
-    ensures { λ r. ⌜ now (bound .exit) ≡ laid (bindCells (kernelAt (now (kernel .entry))) (now (initial .entry)) (length (now (bound .entry)))) (now (bound .entry)) ⌝ }
+    ensures { λ r. ⌜ now (bound .exit) ≡ sliceAtExit (bindCells (kernelAt (now (kernel .entry))) (now (initial .entry))
+        (length (now (bound .entry)))) (now (bound .entry)) ⌝ }
 {
     let made = capi_kernel_cells::kernel_at(kernel).bind(initial);
     let reply = made.reply;
     match reply {
         Reply::Refused(refusal) => refusal::number(Reply::Refused(refusal)),
         Reply::Done => {
-            if bound.len() < BOUND {
+            if bound.len() < BOUND_CELLS {
                 return refusal::number(Reply::Refused(Refusal::ShortSlice));
             }
             let value = made.bound;

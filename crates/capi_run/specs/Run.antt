@@ -13,8 +13,8 @@ use Rattle.protocol.specs.declared.Window.{Window}
 use Rattle.preparation.specs.Preparation.{ownNumber}
 use Rattle.simulation.specs.KernelRun.{propagatorOf}
 
-abbrev pub windowOf : Float → Float → Float → Float → ℕ → ℕ → ℕ → Window
-windowOf start end rtol atol propagations events outputs =
+abbrev pub windowFrom : Float → Float → Float → Float → ℕ → ℕ → ℕ → Window
+windowFrom start end rtol atol propagations events outputs =
     record { start = start; end = end; rtol = rtol; atol = atol; propagations = propagations; events = events; outputs = outputs }
 
 -- 40 where the words are no events, else the library's run of them

@@ -8,6 +8,7 @@ use lib.Dec.{leb, leb→le}
 use lib.ListN.{take}
 use lib.Seq.{take-all}
 use lib.Ieee.{Float}
+use Rattle.limits.specs.Limits.{mostCycleEvents, mostEvents}
 use Rattle.binary64.specs.Doubles.{plusZero}
 use Rattle.matrix.specs.Matrix.{tabulate}
 use Rattle.matrix.proofs.Filled.{tabulate-length}
@@ -16,8 +17,7 @@ use Rattle.events_layout.specs.Layout.{eventCount, eventsFit, eventOf, eventsOf
 use Rattle.events_layout.proofs.Laws.{front-events}
 use Rattle.protocol.specs.declared.Window.{Window}
 use Rattle.cycle.specs.declared.SteadyStateTolerance.{SteadyStateTolerance}
-use Rattle.cycle.specs.Fold.{mostCycleEvents}
-use Rattle.cycle.specs.Closed.{Timed, stopped, Solved}
+use Rattle.cycle.specs.Closed.{Timed, stopped, SteadyState}
 use Rattle.periodic_acceptance.specs.Entry.{steadyEntry}
 use Rattle.capi_steady.specs.Words.{steadyWords}
 
@@ -26,18 +26,18 @@ module _ (k : LinearPk) (w : Window) (ss : List Float) (ws : List ℕ) (tol : St
   unfolding steadyWords
   unfit h = rw h
 
-  abbrev read : Timed Solved
-  read = steadyEntry k w ss (tabulate 192 (eventOrNone ws)) (eventCount ws) tol room
+  abbrev read : Timed SteadyState
+  read = steadyEntry k w ss (tabulate mostEvents (eventOrNone ws)) (eventCount ws) tol room
 
-  abbrev given : Timed Solved
+  abbrev given : Timed SteadyState
   given = steadyEntry k w ss (eventsOf ws) (eventCount ws) tol room
 
   few : leb (eventCount ws) mostCycleEvents ≡ true → read ≡ given
   unfolding steadyEntry eventsOf
   few e =
-      let l : eventCount ws ≤ 64 = leb→le (eventCount ws) 64 (rw e tt) in
-      let t : take (eventCount ws) (tabulate 192 (eventOrNone ws)) ≡ take (eventCount ws) (eventsOf ws) =
-      front-events 192 ws (omega arith) ∙ sym (take-all (eventCount ws) (eventsOf ws) (omega (arith, tabulate-length (eventOf ws) (eventCount ws)))) in
+      let l : eventCount ws ≤ mostCycleEvents = leb→le (eventCount ws) mostCycleEvents (rw e tt) in
+      let t : take (eventCount ws) (tabulate mostEvents (eventOrNone ws)) ≡ take (eventCount ws) (eventsOf ws) =
+      front-events mostEvents ws (omega arith) ∙ sym (take-all (eventCount ws) (eventsOf ws) (omega (arith, tabulate-length (eventOf ws) (eventCount ws)))) in
       rw t
 
   -- more than 64 are 5 either way

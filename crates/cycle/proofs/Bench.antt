@@ -1,4 +1,5 @@
--- Folds, eliminations and closed cycles worked out; where a rounding shows, the bits are those of the Rust. The closed cycles have an advance that stands for a kernel's. Assumes nothing.
+-- Folds, eliminations and closed cycles worked out; where a rounding shows, the bits are those of the Rust. The closed cycles have an
+-- advance that stands for a kernel's. Assumes nothing.
 use mathlib.Core.Path.{_≡_, refl}
 use Prim.Native.Nat.{ℕ, _+_, _-_, _^_}
 use mathlib.Core.Bool.{Bool, true, false}
@@ -15,16 +16,17 @@ use Rattle.protocol.specs.declared.Event.the-variants.{Bolus, Infusion, Reset}
 use Rattle.protocol.specs.declared.Window.{Window}
 use Rattle.protocol.specs.Events.{target, isReset, isBolus, running, marks}
 use Rattle.protocol.specs.Prepare.{prepare}
-use Rattle.protocol.specs.Schedule.{flows, rateOf}
+use Rattle.protocol.specs.Schedule.{flows, infusionRate}
 use Rattle.protocol.specs.Execute.{Propagator, dosed, runOf}
 use Rattle.cycle.specs.declared.SteadyStateTolerance.{SteadyStateTolerance}
 use Rattle.cycle.specs.Fold.{fold}
 use Rattle.cycle.specs.Elimination.{solve}
-use Rattle.cycle.specs.Closed.{Timed, stopped, got, judged, Solved, closed}
+use Rattle.cycle.specs.Closed.{Timed, stopped, got, judged, SteadyState, closed}
 
 -- what a computed instance opens
 unfoldable opened : ℕ
-unfolding add sub mul div rem neg lt le eq isNan ofInt magnitude totalLe larger smaller floorOf sortBy firsts tabulate table sumTo rowSum normTo zipWith target isReset isBolus running marks prepare flows rateOf dosed runOf fold solve judged closed
+unfolding add sub mul div rem neg lt le eq isNan ofInt magnitude totalLe larger smaller floorOf sortBy firsts tabulate table sumTo rowSum
+    normTo zipWith target isReset isBolus running marks prepare flows infusionRate dosed runOf fold solve judged closed
 opened = 0
 
 -- whole numbers
@@ -77,7 +79,8 @@ unfolding opened
 next-period = refl
 
 -- stopped by a reset at its own time a period later: no whole periods, although one fits
-no-whole-periods : folded plusZero eight (long ∷ stop five ∷ []) ≡ done (Infusion five 0 six three ∷ Infusion plusZero 0 (fin false 5 (pos 1)) five ∷ stop five ∷ [])
+no-whole-periods : folded plusZero eight (long ∷ stop five ∷ [])
+    ≡ done (Infusion five 0 six three ∷ Infusion plusZero 0 (fin false 5 (pos 1)) five ∷ stop five ∷ [])
 unfolding opened
 no-whole-periods = refl
 
@@ -96,11 +99,13 @@ unfolding opened
 quotient-rounds-up = refl
 
 -- 0 to 3, 31 over 15 at 0: rate × period first; the other ways round give 31 and 31.000000000000004
-rate-times-period-first : folded plusZero three (Infusion plusZero 0 (fin false 31 (pos 0)) (fin false 15 (pos 0)) ∷ []) ≡ done (Infusion plusZero 0 (fin false 0xf_8000_0000_0001 (negsuc 46)) three ∷ [])
+rate-times-period-first : folded plusZero three (Infusion plusZero 0 (fin false 31 (pos 0)) (fin false 15 (pos 0)) ∷ [])
+    ≡ done (Infusion plusZero 0 (fin false 0xf_8000_0000_0001 (negsuc 46)) three ∷ [])
 unfolding opened
 rate-times-period-first = refl
 
--- the order of the numbers: 15 ahead of 16; 13 of the list so far ahead of a later event's 16; 16 ahead of 10; 17 for an infusion's amount that 12 would take as well
+-- the order of the numbers: 15 ahead of 16; 13 of the list so far ahead of a later event's 16; 16 ahead of 10; 17 for an infusion's amount
+-- that 12 would take as well
 abbrev tight : Window
 tight = record { start = plusZero; end = eight; rtol = plusZero; atol = one; propagations = 100; events = 2; outputs = 100 }
 
@@ -136,15 +141,17 @@ bolus = Bolus plusZero 0 one ∷ []
 abbrev tolerance : Float → Float → SteadyStateTolerance
 tolerance a r = record { absolute = a; relative = r }
 
-abbrev solved : List Float → List Float → Float → Timed Solved
-solved a r m = got (record { amounts = a; residuals = r; greatest = m })
+abbrev solved : List Float → List Float → Float → Timed SteadyState
+solved a r m = got (record { amounts = a; residuals = r; maximum = m })
 
 -- an advance that halves the amounts: the budgets are divided by n + 2, here 3, and 4 comes behind 14
 halving : Propagator
 halving a r d = done (map (λ (x : Float). mul binary64 x half) a)
 
-abbrev budgeted : ℕ → ℕ → ℕ → Bool → Timed Solved
-budgeted p e o room = closed halving 1 (record { start = plusZero; end = one; rtol = one; atol = one; propagations = p; events = e; outputs = o }) [] bolus (tolerance one one) room
+abbrev budgeted : ℕ → ℕ → ℕ → Bool → Timed SteadyState
+budgeted p e o room =
+    closed halving 1 (record { start = plusZero; end = one; rtol = one; atol = one; propagations = p; events = e; outputs = o }) [] bolus
+    (tolerance one one) room
 
 budgets-divided : (budgeted 3 3 18 true ≡ solved (one ∷ []) (plusZero ∷ []) plusZero)
     × (budgeted 3 2 17 true ≡ stopped 13 plusZero)
@@ -166,10 +173,11 @@ two-states = refl
 turning : Propagator
 turning a r d = done (sub binary64 one (cell a 0) ∷ [])
 
-abbrev turned : Float → Float → Timed Solved
+abbrev turned : Float → Float → Timed SteadyState
 turned a r = closed turning 1 (window plusZero one) [] [] (tolerance a r) true
 
-own-residual : (turned one plusZero ≡ solved (one ∷ []) (neg one ∷ []) one) × (turned half plusZero ≡ stopped 36 plusZero) × (turned plusZero plusZero ≡ stopped 19 plusZero)
+own-residual : (turned one plusZero ≡ solved (one ∷ []) (neg one ∷ []) one) × (turned half plusZero ≡ stopped 36 plusZero)
+    × (turned plusZero plusZero ≡ stopped 19 plusZero)
 unfolding opened turning
 own-residual = (refl, refl, refl)
 

@@ -32,13 +32,16 @@ module _ (advance : Propagator) (n : ℕ) (w : Window) (fs : List Event) where
       let p = then-got (columnsTo advance n w fs k) (λ cs. then (lastOf advance n w (homogeneous fs) (unit n k)) (λ c. got (cs ++ (c ∷ [])))) cs q in
       let r = then-got (lastOf advance n w (homogeneous fs) (unit n k)) (λ c. got (p .0 ++ (c ∷ []))) cs (p .2) in
       let h = columns-units k (p .0) (p .1) in
-      subst (λ (x : List (List Float)). (length x ≡ suc k) × FromUnits (suc k) x) (same-answer (r .2))
-      (length-append (p .0) (r .0 ∷ []) ∙ more (length (p .0)) k (h .0), λ (j : ℕ) (l : j < suc k). on (p .0) (r .0) (h .0) (h .1) (r .1) j (eq-or-lt-of-le (le-of-suc-le-suc l)))
+      subst (λ (x : List (List Float)). (length x ≡ suc k) × FromUnits (suc k) x) (same-answer (r .2)) (
+        length-append (p .0) (r .0 ∷ []) ∙ more (length (p .0)) k (h .0),
+        λ (j : ℕ) (l : j < suc k). on (p .0) (r .0) (h .0) (h .1) (r .1) j (eq-or-lt-of-le (le-of-suc-le-suc l)),
+      )
     where
       more : (a b : ℕ) → a ≡ b → a + 1 ≡ suc b
       more a b e = omega arith
 
-      on : (xs : List (List Float)) (c : List Float) → length xs ≡ k → FromUnits k xs → lastOf advance n w (homogeneous fs) (unit n k) ≡ got c → (j : ℕ) → (j ≡ k) ⊎ (j < k)
+      on : (xs : List (List Float)) (c : List Float) → length xs ≡ k → FromUnits k xs
+          → lastOf advance n w (homogeneous fs) (unit n k) ≡ got c → (j : ℕ) → (j ≡ k) ⊎ (j < k)
           → lastOf advance n w (homogeneous fs) (unit n j) ≡ got (getD (xs ++ (c ∷ [])) j [])
       on xs c e h g j (inl i) = ap (λ (x : ℕ). lastOf advance n w (homogeneous fs) (unit n x)) i ∙ g ∙ ap got (sym (getD-at xs c [] [] j (e ∙ sym i)))
       on xs c e h g j (inr l) = h j l ∙ ap got (sym (List·getD-append xs (c ∷ []) [] j (omega arith)))
@@ -47,7 +50,8 @@ module _ (advance : Propagator) (n : ℕ) (w : Window) (fs : List Event) where
   unfolding columnsTo
   units-columns cs m e h zero l = refl
   units-columns cs m e h (suc k) l =
-      ap (λ (r : Timed (List (List Float))). then r (λ cs. then (lastOf advance n w (homogeneous fs) (unit n k)) (λ c. got (cs ++ (c ∷ []))))) (units-columns cs m e h k (omega arith))
+      ap (λ (r : Timed (List (List Float))). then r (λ cs. then (lastOf advance n w (homogeneous fs) (unit n k))
+      (λ c. got (cs ++ (c ∷ []))))) (units-columns cs m e h k (omega arith))
       ∙ ap (λ (r : Timed (List Float)). then r (λ c. got (take k cs ++ (c ∷ [])))) (h k l)
       ∙ ap got (sym (take-suc cs k [] (omega arith)))
 
@@ -55,7 +59,8 @@ module _ (advance : Propagator) (n : ℕ) (w : Window) (ss : List Float) (es : L
   pub solution-yields : (fs : List Event) → ready n w ss es tol ≡ got fs → solution advance n w fs ≡ got c → Yields advance n w ss es tol c
   unfolding solution
   solution-yields fs p q =
-      let r = then-got (lastOf advance n w fs (replicate n plusZero)) (λ b. then (columnsTo advance n w fs n) (λ cs. untimed (solve n (systemOf n cs b)))) c q in
+      let r = then-got (lastOf advance n w fs (replicate n plusZero)) (λ b. then (columnsTo advance n w fs n)
+      (λ cs. untimed (solve n (systemOf n cs b)))) c q in
       let t = then-got (columnsTo advance n w fs n) (λ cs. untimed (solve n (systemOf n cs (r .0)))) c (r .2) in
       let u = columns-units advance n w fs n (t .0) (t .1) in
       record {

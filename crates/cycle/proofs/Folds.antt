@@ -1,4 +1,5 @@
--- The fold: an event gives at most three pieces, each at its own time or at the start; what is folded passes 10, 11 and 12 again, and so does its zeroed form. Assumes nothing.
+-- The fold: an event gives at most three pieces, each at its own time or at the start; what is folded passes 10, 11 and 12 again, and so
+-- does its zeroed form. Assumes nothing.
 use mathlib.Core.Path.{_≡_, refl, sym, ap, ap₂, _∙_, subst}
 use Prim.Native.Nat.{ℕ, zero, suc, _+_, _*_, _^_, _≤_, _<_}
 use native.Mathlib.Nat.{mul-pos, zero-lt-suc, zero-mul}
@@ -21,9 +22,10 @@ use Rattle.protocol.specs.First as F
 use Rattle.protocol.specs.Events.{time, target}
 use Rattle.protocol.specs.Prepare.{windowPasses, within, sameReset, eventPasses, eventsPass, reckoned, prepare}
 use Rattle.protocol.proofs.ListLaws.{both, and-T}
-use Rattle.cycle.specs.Fold.{period, cyclePasses, countPasses, timePasses, infusionPasses, stopping, stopOf, whole, piece, tail, parts, wholes, lasting, pieces, withEvent, withEvents, validated, fold}
+use Rattle.cycle.specs.Fold.{period, cyclePasses, countPasses, timePasses, infusionPasses, stopping, stopOf, whole, piece, tail}
+use Rattle.cycle.specs.Fold.{parts, wholePeriods, infusionPieces, pieces, withEvent, withEvents, validated, fold}
 use Rattle.cycle.specs.Closed.{divided, zeroed, homogeneous}
-use Rattle.cycle.specs.FoldedCycle.{budgetNumber, EveryFold}
+use Rattle.cycle.specs.FoldLaws.{budgetNumber, EveryFold}
 use Rattle.cycle.proofs.Rounding.{zero-value}
 use Rattle.cycle.proofs.Results.{Gives, gives-then, gives-test, gives-last, gives-done, gives-number}
 
@@ -51,8 +53,8 @@ module _ (w : Window) (t : Float) (i : ℕ) (r : Float) where
       on true h ps k = record { few = omega arith; times = λ s f. and-T (fits binary64 t) (all timeFits ps) f (k .times s f) }
       on false h ps k = record { few = omega arith; times = λ _ _. tt }
 
-  wholes-few : (left c : Float) → Few 3 w t (wholes w t i r left c)
-  unfolding wholes
+  wholes-few : (left c : Float) → Few 3 w t (wholePeriods w t i r left c)
+  unfolding wholePeriods
   wholes-few left c = on (le one c) _ _ (parts-few _) (parts-few left)
     where
       on : (b : Bool) (ps qs : List Event) → Few 2 w t ps → Few 2 w t qs → Few 3 w t (cond b (whole w i r c ∷ ps) qs)
@@ -67,19 +69,19 @@ single-few : (w : Window) (e : Event) → Few 3 w (time e) (e ∷ [])
 single-few w e = record { few = omega arith; times = λ _ f. and-T (timeFits e) true f tt }
 
 pieces-few : (w : Window) (es : List Event) (e : Event) → Gives folding (Few 3 w (time e)) (pieces w es e)
-unfolding pieces lasting
+unfolding pieces infusionPieces
 pieces-few w es (Bolus t i a) = single-few w (Bolus t i a)
 pieces-few w es (Reset t i v o c) = single-few w (Reset t i v o c)
 pieces-few w es (Infusion t i a d) =
     gives-test folding (Few 3 w t) (infusionPasses t a d) 17 (stopOf (period w) t i (add binary64 t d) es)
-    (λ stop. lasting (any (stopping i) es) w t i (div binary64 a d) (sub binary64 stop t)) tt
+    (λ stop. infusionPieces (any (stopping i) es) w t i (div binary64 a d) (sub binary64 stop t)) tt
     (λ _. on (any (stopping i) es) (sub binary64 (stopOf (period w) t i (add binary64 t d) es) t))
   where
-    on : (b : Bool) (left : Float) → Gives folding (Few 3 w t) (lasting b w t i (div binary64 a d) left)
+    on : (b : Bool) (left : Float) → Gives folding (Few 3 w t) (infusionPieces b w t i (div binary64 a d) left)
     on true left = let h = parts-few w t i (div binary64 a d) left in record { few = omega arith; times = h .times }
     on false left =
         let c = floorOf (div binary64 left (period w)) in
-        gives-last folding (Few 3 w t) (finite c) 18 (wholes w t i (div binary64 a d) left c) tt (λ _. wholes-few w t i (div binary64 a d) left c)
+        gives-last folding (Few 3 w t) (finite c) 18 (wholePeriods w t i (div binary64 a d) left c) tt (λ _. wholes-few w t i (div binary64 a d) left c)
 
 -- ---- the list so far
 all-append : {A : Type 0} (p : A → Bool) (xs ys : List A) → T (all p xs) → T (all p ys) → T (all p (xs ++ ys))
@@ -169,8 +171,11 @@ zero-over f (fin false zero e) h = absurd (no (ltb→lt (0 * down e) (0 * up e *
     no : 0 * down e < 0 * up e * 1 → ⊥
     no p = omega (arith, let z : 0 * up e * 1 ≡ 0 = simp zero-mul in z)
 zero-over f (fin false (suc m) e) h =
-    subst (λ (b : Bool). T (finite (cond b (cond (eqb 0 0) nan (inf (unlike false false))) (round f (unlike false false) (0 * 2 ^ 0 * down e) (suc m * up e * 1))))) (sym (eqb·suc-zero m))
-    (has-finite (round f false (0 * 2 ^ 0 * down e) (suc m * up e * 1)) false 0 (suc m * up e * 1) (zero-value f false (0 * 2 ^ 0 * down e) (suc m * up e * 1) (simp zero-mul) (mul-pos (mul-pos (zero-lt-suc m) (up-pos e)) (zero-lt-suc 0))))
+    subst (λ (b : Bool). T (finite (cond b (cond (eqb 0 0) nan (inf (unlike false false)))
+    (round f (unlike false false) (0 * 2 ^ 0 * down e) (suc m * up e * 1))))) (sym (eqb·suc-zero m))
+    (has-finite (round f false (0 * 2 ^ 0 * down e) (suc m * up e * 1)) false 0 (suc m * up e * 1)
+    (zero-value f false (0 * 2 ^ 0 * down e) (suc m * up e * 1) (simp zero-mul) (mul-pos (mul-pos (zero-lt-suc m) (up-pos e))
+    (zero-lt-suc 0))))
 
 zeroed-reset : (t : Float) (o : ℕ) (seen : List Event) → any (sameReset t o) (homogeneous seen) ≡ any (sameReset t o) seen
 unfolding homogeneous zeroed
@@ -193,11 +198,13 @@ zeroed-event n w seen (Infusion t i a d) h = swap-test (within w t) (ltb i n) _ 
     x : Float
     x = add binary64 t d
 
-    on : T (nonnegative a && (positive d && (lt t x && (le x (w .end) && finite (div binary64 a d))))) → T (positive d && (lt t x && (le x (w .end) && finite (div binary64 plusZero d))))
+    on : T (nonnegative a && (positive d && (lt t x && (le x (w .end) && finite (div binary64 a d)))))
+        → T (positive d && (lt t x && (le x (w .end) && finite (div binary64 plusZero d))))
     on h =
         let p = both (nonnegative a) _ h in
         let q = both (positive d) _ (p .1) in
-        and-T (positive d) _ (q .0) (swap-test (lt t x) (le x (w .end)) (finite (div binary64 a d)) (finite (div binary64 plusZero d)) (λ _. zero-over binary64 d (q .0)) (q .1))
+        and-T (positive d) _ (q .0) (swap-test (lt t x) (le x (w .end)) (finite (div binary64 a d)) (finite (div binary64 plusZero d))
+        (λ _. zero-over binary64 d (q .0)) (q .1))
 zeroed-event n w seen (Reset t i v o c) h =
     swap-test (within w t) (ltb i n) (finite v && not (any (sameReset t o) seen)) (not (any (sameReset t o) (homogeneous seen)))
     (λ g. subst (λ (b : Bool). T (not b)) (sym (zeroed-reset t o seen)) (both (finite v) _ g .1)) h
@@ -207,7 +214,8 @@ unfolding homogeneous
 zeroed-events n w seen [] h = tt
 zeroed-events n w seen (e ∷ es) h =
     let p = both (eventPasses n w seen e) (eventsPass n w (e ∷ seen) es) h in
-    and-T (eventPasses n w (homogeneous seen) (zeroed e)) (eventsPass n w (homogeneous (e ∷ seen)) (homogeneous es)) (zeroed-event n w seen e (p .0)) (zeroed-events n w (e ∷ seen) es (p .1))
+    and-T (eventPasses n w (homogeneous seen) (zeroed e)) (eventsPass n w (homogeneous (e ∷ seen)) (homogeneous es))
+    (zeroed-event n w seen e (p .0)) (zeroed-events n w (e ∷ seen) es (p .1))
 
 zeroed-length : (es : List Event) → length (homogeneous es) ≡ length es
 unfolding homogeneous
@@ -230,10 +238,12 @@ only-budgets true true false d e B C D = absurd C
 only-budgets true true true false e B C D = absurd D
 only-budgets true true true true e B C D = refl
 
-inner : (n k : ℕ) (w : Window) (es : List Event) → T (windowPasses w) → T (eventsPass n w [] es) → prepare n (divided k w) [] es ≡ budgetNumber n (divided k w) es
+inner : (n k : ℕ) (w : Window) (es : List Event) → T (windowPasses w) → T (eventsPass n w [] es)
+    → prepare n (divided k w) [] es ≡ budgetNumber n (divided k w) es
 unfolding prepare divided
 inner n k w es h p =
-    only-budgets (leb (length es) (divided k w .events)) (windowPasses w) true (eventsPass n (divided k w) [] es) (leb (reckoned [] es * n) (divided k w .outputs)) h tt (subst T (sym (divided-events n k w [] es)) p)
+    only-budgets (leb (length es) (divided k w .events)) (windowPasses w) true (eventsPass n (divided k w) [] es)
+    (leb (reckoned [] es * n) (divided k w .outputs)) h tt (subst T (sym (divided-events n k w [] es)) p)
 
 pub folded-passes : (n k : ℕ) (w : Window) (es fs : List Event) → Folded n w es fs → prepare n (divided k w) [] fs ≡ budgetNumber n (divided k w) fs
 folded-passes n k w es fs f = inner n k w fs (f .window-passes) (f .events-pass)
@@ -243,7 +253,8 @@ pub zeroed-passes : (n k : ℕ) (w : Window) (es fs : List Event) → Folded n w
 unfolding homogeneous
 zeroed-passes n k w es fs f =
     inner n k w (homogeneous fs) (f .window-passes) (zeroed-events n w [] fs (f .events-pass))
-    ∙ ap (λ (x : ℕ). F.firstOf (F.unless (leb x (divided k w .events)) 13 ∷ F.unless (leb ((4 * x + 0 + 2) * n) (divided k w .outputs)) 14 ∷ [])) (zeroed-length fs)
+    ∙ ap (λ (x : ℕ). F.firstOf (F.unless (leb x (divided k w .events)) 13 ∷ F.unless (leb ((4 * x + 0 + 2) * n) (divided k w .outputs)) 14
+    ∷ [])) (zeroed-length fs)
     ∙ sym (folded-passes n k w es fs f)
 
 pub every-fold : EveryFold

@@ -1,4 +1,5 @@
--- The inner runs of a closed cycle: what is handed on by `ready`, and by it the lists of these runs are prepared, their window is a cycle, and the last post row of one that reaches the end
+-- The inner runs of a closed cycle: what is handed on by `ready`, and by it the lists of these runs are prepared, their window is a cycle,
+-- and the last post row of one that reaches the end
 -- holds the amounts that it leaves. Assumes nothing.
 use mathlib.Core.Path.{_≡_, refl, sym, ap, _∙_, subst}
 use Prim.Native.Nat.{ℕ, _*_, _≤_}
@@ -31,15 +32,19 @@ pub record Ready (n : ℕ) (w : Window) (es : List Event) (tol : SteadyStateTole
   pub folds : Folded n w es fs
   pub prepared : prepare n (divided n w) [] fs ≡ none
 
-pub ready-hands : (n : ℕ) (w : Window) (ss : List Float) (es : List Event) (tol : SteadyStateTolerance) → Hands closedNumbers (Ready n w es tol) (ready n w ss es tol)
+pub ready-hands : (n : ℕ) (w : Window) (ss : List Float) (es : List Event) (tol : SteadyStateTolerance)
+    → Hands closedNumbers (Ready n w es tol) (ready n w ss es tol)
 unfolding ready
 ready-hands n w ss es tol =
     hands-test closedNumbers (Ready n w es tol) (tolerancePasses tol) 19 es _ tt
-    (λ t. hands-then closedNumbers (Ready n w es tol) (Folded n w es) (untimed (fold n w ss es)) _ (hands-untimed folding closedNumbers (Folded n w es) (fold n w ss es) tt (fold-gives n w ss es))
+    (λ t. hands-then closedNumbers (Ready n w es tol) (Folded n w es) (untimed (fold n w ss es)) _
+    (hands-untimed folding closedNumbers (Folded n w es) (fold n w ss es) tt (fold-gives n w ss es))
     (λ fs f. let p = folded-passes n n w es fs f in
-    subst (λ (o : Option ℕ). Hands closedNumbers (Ready n w es tol) (unlessNumber o fs)) (sym p) (on t fs f (leb (length fs) (divided n w .events)) (leb (reckoned [] fs * n) (divided n w .outputs)) p)))
+    subst (λ (o : Option ℕ). Hands closedNumbers (Ready n w es tol) (unlessNumber o fs)) (sym p)
+    (on t fs f (leb (length fs) (divided n w .events)) (leb (reckoned [] fs * n) (divided n w .outputs)) p)))
   where
-    on : T (tolerancePasses tol) → (fs : List Event) → Folded n w es fs → (a b : Bool) → prepare n (divided n w) [] fs ≡ firstOf (unless a 13 ∷ unless b 14 ∷ [])
+    on : T (tolerancePasses tol) → (fs : List Event) → Folded n w es fs → (a b : Bool)
+        → prepare n (divided n w) [] fs ≡ firstOf (unless a 13 ∷ unless b 14 ∷ [])
         → Hands closedNumbers (Ready n w es tol) (unlessNumber (firstOf (unless a 13 ∷ unless b 14 ∷ [])) fs)
     on t fs f true true q = record { tolerance = t; folds = f; prepared = q }
     on t fs f true false q = tt
@@ -76,7 +81,8 @@ pub record Inner (n : ℕ) (w : Window) (es fs : List Event) : Type 0 where
   pub prepared : Prepared n (divided n w) [] fs
   pub zeroed-prepared : Prepared n (divided n w) [] (homogeneous fs)
 
-pub ready-inner : (n : ℕ) (w : Window) (ss : List Float) (es : List Event) (tol : SteadyStateTolerance) (fs : List Event) → TimesFit w es → ready n w ss es tol ≡ got fs → Inner n w es fs
+pub ready-inner : (n : ℕ) (w : Window) (ss : List Float) (es : List Event) (tol : SteadyStateTolerance) (fs : List Event) → TimesFit w es
+    → ready n w ss es tol ≡ got fs → Inner n w es fs
 ready-inner n w ss es tol fs fit q =
     let r = hands-got closedNumbers (Ready n w es tol) (ready n w ss es tol) fs (ready-hands n w ss es tol) q in
     record {
@@ -92,6 +98,8 @@ unfolding lastPost
 last-post a [] r p = rw p refl
 last-post a (x ∷ rs) r p = last-post _ rs r p
 
-pub run-leaves : (advance : Propagator) (n : ℕ) (w : Window) (ss : List Float) (es : List Event) (a : List Float) (z : State) → Prepared n w ss es → runOf advance n w ss es a ≡ go z
+pub run-leaves : (advance : Propagator) (n : ℕ) (w : Window) (ss : List Float) (es : List Event) (a : List Float) (z : State)
+    → Prepared n w ss es → runOf advance n w ss es a ≡ go z
     → lastPost [] (z .rows) ≡ z .amounts
-run-leaves advance n w ss es a z p e = let h = last-row advance n w ss es p a z e in ap (lastPost []) (h .whole) ∙ last-post [] (h .ahead) (h .last) (h .post) ∙ h .final
+run-leaves advance n w ss es a z p e = let h =
+    last-row advance n w ss es p a z e in ap (lastPost []) (h .whole) ∙ last-post [] (h .ahead) (h .last) (h .post) ∙ h .final

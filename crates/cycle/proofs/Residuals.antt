@@ -1,4 +1,5 @@
--- State by state: 35 and 36 hold off exactly where each scale is finite and each scaled residual at most 1, and the greatest is then handed on; else the number is that of the first state
+-- State by state: 35 and 36 hold off exactly where each scale is finite and each scaled residual at most 1, and the greatest is then handed
+-- on; else the number is that of the first state
 -- that fails. Assumes nothing.
 use mathlib.Core.Path.{_≡_, refl, sym, ap, _∙_, subst}
 use Prim.Native.Nat.{ℕ, zero, suc, _<_}
@@ -17,8 +18,8 @@ use Rattle.binary64.proofs.Order.{lt→spot, spot→lt, le→spot, spot→le, n
 use Rattle.matrix.specs.Matrix.{cell}
 use Rattle.protocol.proofs.ListLaws.{both, and-T}
 use Rattle.cycle.specs.declared.SteadyStateTolerance.{SteadyStateTolerance}
-use Rattle.cycle.specs.Closed.{Timed, stopped, got, then, unlessFails, tolerancePasses, scaleOf, scaledOf, judged, greatestTo}
-use Rattle.cycle.specs.ClosedCycle.{closedNumbers, Small, Fails, scale-fails, residual-fails, FirstFails, largestTo}
+use Rattle.cycle.specs.Closed.{Timed, stopped, got, then, unlessFails, tolerancePasses, scaleOf, scaledOf, judged, checkedMaximumTo}
+use Rattle.cycle.specs.ClosedCycle.{closedNumbers, Small, Fails, scale-fails, residual-fails, FirstFails, maximumTo}
 use Rattle.cycle.proofs.Results.{Hands, hands-then, hands-test, hands-map, hands-last, hands-got, test-passes, test-fails, no-answer, same-refusal}
 use Rattle.cycle.proofs.Scales.{at-most-finite}
 
@@ -41,14 +42,19 @@ module _ (tol : SteadyStateTolerance) (x y : Float) where
       let g = scaled-good (p .0) in
       spot→le binary64 (scaledOf tol x y) one g one-good
       (nltb→le (spot binary64 one) (spot binary64 (scaledOf tol x y)) (not-T (ltb (spot binary64 one) (spot binary64 (scaledOf tol x y)))
-      (λ l. T-not (lt one (scaledOf tol x y)) (p .1) (spot→lt binary64 one (scaledOf tol x y) one-good g (ltb→lt (spot binary64 one) (spot binary64 (scaledOf tol x y)) l)))))
+      (λ l. T-not (lt one (scaledOf tol x y)) (p .1) (spot→lt binary64 one (scaledOf tol x y) one-good g
+      (ltb→lt (spot binary64 one) (spot binary64 (scaledOf tol x y)) l)))))
 
   passes : T (tolerancePasses tol) → T (le (scaledOf tol x y) one) → T test
   passes ok h =
       let f = at-most-finite tol x y ok h in
       let g = scaled-good f in
       and-T (finite (scaledOf tol x y)) (not (lt one (scaledOf tol x y))) f
-      (not-T (lt one (scaledOf tol x y)) (λ l. omega (arith, lt→spot binary64 one (scaledOf tol x y) one-good g l, le→spot binary64 (scaledOf tol x y) one g one-good h)))
+      (not-T (lt one (scaledOf tol x y)) (λ l. omega (
+        arith,
+        lt→spot binary64 one (scaledOf tol x y) one-good g l,
+        le→spot binary64 (scaledOf tol x y) one g one-good h,
+      )))
 
   judged-hands : (m : Float) → Hands closedNumbers (λ (r : Float). Small tol x y × (r ≡ larger m (scaledOf tol x y))) (judged tol x y m)
   unfolding judged
@@ -68,7 +74,8 @@ module _ (tol : SteadyStateTolerance) (x y : Float) where
   -- 35 or 36, each with +0
   fails-judged : (g : Float) {m : ℕ} → Fails tol x y m → judged tol x y g ≡ stopped m plusZero
   unfolding judged
-  fails-judged g (scale-fails h) = ap (λ (r : Timed Float). then r (λ g. unlessFails test 36 (larger g (scaledOf tol x y)))) (test-fails (finite (scaleOf tol x y)) 35 g h)
+  fails-judged g (scale-fails h) = ap (λ (r : Timed Float). then r (λ g. unlessFails test 36 (larger g (scaledOf tol x y))))
+      (test-fails (finite (scaleOf tol x y)) 35 g h)
   fails-judged g (residual-fails f h) =
       ap (λ (r : Timed Float). then r (λ g. unlessFails test 36 (larger g (scaledOf tol x y)))) (test-passes (finite (scaleOf tol x y)) 35 g f)
       ∙ test-fails test 36 (larger g (scaledOf tol x y)) (not-T test (λ t. T-not (le (scaledOf tol x y) one) h (at-most t)))
@@ -80,7 +87,8 @@ module _ (tol : SteadyStateTolerance) (x y : Float) where
       is : (k : ℕ) → Fails tol x y k → _≡_ {A = Timed Float} (stopped k plusZero) (stopped m t) → Fails tol x y m × (t ≡ plusZero)
       is k h q = let e = same-refusal q in (subst (Fails tol x y) (e .0) h, sym (e .1))
 
-      last : (b : Bool) → (T (not b) → T (not test)) → T (finite (scaleOf tol x y)) → unlessFails b 36 (larger g (scaledOf tol x y)) ≡ stopped m t → Fails tol x y m × (t ≡ plusZero)
+      last : (b : Bool) → (T (not b) → T (not test)) → T (finite (scaleOf tol x y))
+          → unlessFails b 36 (larger g (scaledOf tol x y)) ≡ stopped m t → Fails tol x y m × (t ≡ plusZero)
       last true f s q = absurd (no-answer (sym q))
       last false f s q = is 36 (residual-fails s (not-T (le (scaledOf tol x y) one) (λ l. T-not test (f tt) (passes ok l)))) q
 
@@ -95,56 +103,75 @@ module _ (tol : SteadyStateTolerance) (a e : List Float) where
   AllSmall k = (i : ℕ) → i < k → Small tol (cell a i) (cell e i)
 
   abbrev pub Greatest : ℕ → Float → Type 0
-  Greatest k m = AllSmall k × (m ≡ largestTo tol a e k)
+  Greatest k m = AllSmall k × (m ≡ maximumTo tol a e k)
 
-  pub greatest-hands : (k : ℕ) → Hands closedNumbers (Greatest k) (greatestTo tol a e k)
-  unfolding greatestTo largestTo
+  pub greatest-hands : (k : ℕ) → Hands closedNumbers (Greatest k) (checkedMaximumTo tol a e k)
+  unfolding checkedMaximumTo maximumTo
   greatest-hands zero = (λ (i : ℕ) (l : i < 0). absurd (no i l), refl)
     where
       no : (i : ℕ) → i < 0 → ⊥
       no i l = omega arith
   greatest-hands (suc k) =
-      hands-then closedNumbers (Greatest (suc k)) (Greatest k) (greatestTo tol a e k) (judged tol (cell a k) (cell e k)) (greatest-hands k)
-      (λ m h. hands-map closedNumbers (λ (r : Float). Small tol (cell a k) (cell e k) × (r ≡ larger m (scaledOf tol (cell a k) (cell e k)))) (Greatest (suc k)) (judged tol (cell a k) (cell e k) m)
-      (λ r j. (λ (i : ℕ) (l : i < suc k). on i (h .0) (j .0) (eq-or-lt-of-le (le-of-suc-le-suc l)), j .1 ∙ ap (λ (z : Float). larger z (scaledOf tol (cell a k) (cell e k))) (h .1)))
+      hands-then closedNumbers (Greatest (suc k)) (Greatest k) (checkedMaximumTo tol a e k) (judged tol (cell a k) (cell e k)) (greatest-hands k)
+      (λ m h. hands-map closedNumbers (λ (r : Float). Small tol (cell a k) (cell e k) × (r ≡ larger m (scaledOf tol (cell a k) (cell e k))))
+      (Greatest (suc k)) (judged tol (cell a k) (cell e k) m)
+      (λ r j. (
+        λ (i : ℕ) (l : i < suc k). on i (h .0) (j .0) (eq-or-lt-of-le (le-of-suc-le-suc l)),
+        j .1
+            ∙ ap (λ (z : Float). larger z (scaledOf tol (cell a k) (cell e k))) (h .1),
+      ))
       (judged-hands tol (cell a k) (cell e k) m))
     where
       on : (i : ℕ) → AllSmall k → Small tol (cell a k) (cell e k) → (i ≡ k) ⊎ (i < k) → Small tol (cell a i) (cell e i)
       on i h j (inl p) = subst (λ (x : ℕ). Small tol (cell a x) (cell e x)) (sym p) j
       on i h j (inr l) = h i l
 
-  pub small-greatest : (k : ℕ) → T (tolerancePasses tol) → AllSmall k → greatestTo tol a e k ≡ got (largestTo tol a e k)
-  unfolding greatestTo largestTo
+  pub small-greatest : (k : ℕ) → T (tolerancePasses tol) → AllSmall k → checkedMaximumTo tol a e k ≡ got (maximumTo tol a e k)
+  unfolding checkedMaximumTo maximumTo
   small-greatest zero ok h = refl
   small-greatest (suc k) ok h =
       ap (λ (r : Timed Float). then r (judged tol (cell a k) (cell e k))) (small-greatest k ok (λ (i : ℕ) (l : i < k). h i (omega arith)))
-      ∙ small-judged tol (cell a k) (cell e k) (largestTo tol a e k) ok (h k (lt-suc-self k))
+      ∙ small-judged tol (cell a k) (cell e k) (maximumTo tol a e k) ok (h k (lt-suc-self k))
 
   -- ---- the first that fails
-  pub fails-greatest : (k m : ℕ) → T (tolerancePasses tol) → FirstFails tol a e k m → greatestTo tol a e k ≡ stopped m plusZero
-  unfolding greatestTo
+  pub fails-greatest : (k m : ℕ) → T (tolerancePasses tol) → FirstFails tol a e k m → checkedMaximumTo tol a e k ≡ stopped m plusZero
+  unfolding checkedMaximumTo
   fails-greatest zero m ok h = absurd (no (h .state) (h .below))
     where
       no : (i : ℕ) → i < 0 → ⊥
       no i l = omega arith
   fails-greatest (suc k) m ok h = on (h .state) (h .ahead) (h .fails) (eq-or-lt-of-le (le-of-suc-le-suc (h .below))) (fails-greatest k m ok)
     where
-      at : AllSmall k → Fails tol (cell a k) (cell e k) m → then (greatestTo tol a e k) (judged tol (cell a k) (cell e k)) ≡ stopped m plusZero
-      at s f = ap (λ (r : Timed Float). then r (judged tol (cell a k) (cell e k))) (small-greatest k ok s) ∙ fails-judged tol (cell a k) (cell e k) (largestTo tol a e k) f
+      at : AllSmall k → Fails tol (cell a k) (cell e k) m → then (checkedMaximumTo tol a e k) (judged tol (cell a k) (cell e k)) ≡ stopped m plusZero
+      at s f =
+          ap (λ (r : Timed Float). then r (judged tol (cell a k) (cell e k))) (small-greatest k ok s)
+          ∙ fails-judged tol (cell a k) (cell e k) (maximumTo tol a e k) f
 
-      on : (i : ℕ) → AllSmall i → Fails tol (cell a i) (cell e i) m → (i ≡ k) ⊎ (i < k) → (FirstFails tol a e k m → greatestTo tol a e k ≡ stopped m plusZero) → then (greatestTo tol a e k) (judged tol (cell a k) (cell e k)) ≡ stopped m plusZero
+      on : (i : ℕ) → AllSmall i → Fails tol (cell a i) (cell e i) m → (i ≡ k) ⊎ (i < k)
+          → (FirstFails tol a e k m → checkedMaximumTo tol a e k ≡ stopped m plusZero)
+          → then (checkedMaximumTo tol a e k) (judged tol (cell a k) (cell e k)) ≡ stopped m plusZero
       on i s f (inl p) ih = at (subst AllSmall p s) (subst (λ (j : ℕ). Fails tol (cell a j) (cell e j) m) p f)
       on i s f (inr l) ih = ap (λ (r : Timed Float). then r (judged tol (cell a k) (cell e k))) (ih (record { state = i; below = l; ahead = s; fails = f }))
 
-  pub greatest-fails : (k m : ℕ) (t : Float) → T (tolerancePasses tol) → greatestTo tol a e k ≡ stopped m t → FirstFails tol a e k m × (t ≡ plusZero)
-  unfolding greatestTo
+  pub greatest-fails : (k m : ℕ) (t : Float) → T (tolerancePasses tol) → checkedMaximumTo tol a e k ≡ stopped m t → FirstFails tol a e k m × (t ≡ plusZero)
+  unfolding checkedMaximumTo
   greatest-fails zero m t ok q = absurd (no-answer (sym q))
-  greatest-fails (suc k) m t ok q = on (greatestTo tol a e k) refl q (greatest-fails k m t ok)
+  greatest-fails (suc k) m t ok q = on (checkedMaximumTo tol a e k) refl q (greatest-fails k m t ok)
     where
-      on : (r : Timed Float) → greatestTo tol a e k ≡ r → then r (judged tol (cell a k) (cell e k)) ≡ stopped m t → (greatestTo tol a e k ≡ stopped m t → FirstFails tol a e k m × (t ≡ plusZero)) → FirstFails tol a e (suc k) m × (t ≡ plusZero)
+      on : (r : Timed Float) → checkedMaximumTo tol a e k ≡ r → then r (judged tol (cell a k) (cell e k)) ≡ stopped m t
+          → (checkedMaximumTo tol a e k ≡ stopped m t → FirstFails tol a e k m × (t ≡ plusZero))
+          → FirstFails tol a e (suc k) m × (t ≡ plusZero)
       on (stopped c u) p q ih =
           let h = ih (p ∙ q) in
           (record { state = h .0 .state; below = omega (arith, h .0 .below); ahead = h .0 .ahead; fails = h .0 .fails }, h .1)
       on (got g) p q ih =
-          let h = judged-fails tol (cell a k) (cell e k) g m t ok q in
-          (record { state = k; below = lt-suc-self k; ahead = hands-got closedNumbers (Greatest k) (greatestTo tol a e k) g (greatest-hands k) p .0; fails = h .0 }, h .1)
+          let h = judged-fails tol (cell a k) (cell e k) g m t ok q in (
+            record {
+              state = k;
+              below = lt-suc-self k;
+              ahead = hands-got closedNumbers (Greatest k) (checkedMaximumTo tol a e k) g
+                  (greatest-hands k) p .0;
+              fails = h .0;
+            },
+            h .1,
+          )

@@ -12,7 +12,8 @@ use Rattle.binary64.specs.Doubles.{negative}
 pub zero-value : (f : Format) (s : Bool) (a c : ℕ) → a ≡ 0 → 0 < c → HasValue (round f s a c) s 0 c
 zero-value f s a c p h =
     subst (λ (x : ℕ). HasValue (round f s x c) s 0 c) (sym p)
-    (round-exact f s 0 c 0 0 h (pow-pos (prec f)) (subst (λ (x : ℕ). x < 2 ^ (low f + suc (emax f))) (sym (zero-mul (2 ^ 0))) (pow-pos (low f + suc (emax f)))) (simp zero-mul))
+    (round-exact f s 0 c 0 0 h (pow-pos (prec f)) (subst (λ (x : ℕ). x < 2 ^ (low f + suc (emax f))) (sym (zero-mul (2 ^ 0)))
+    (pow-pos (low f + suc (emax f)))) (simp zero-mul))
 
 pub round-clear : (f : Format) (a c : ℕ) → T (not (negative (round f false a c)))
 unfolding round units odd

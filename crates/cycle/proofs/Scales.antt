@@ -76,8 +76,10 @@ mul-fair f (fin false m e) (inf false) g h k = on (eqb m 0)
 mul-fair f (fin true zero e) (inf false) g h k = tt
 mul-fair f (fin true (suc m) e) (inf false) g h k = absurd (subst T (eqb·suc-zero m) h)
 mul-fair f (fin s m e) (fin true n d) g h k = absurd k
-mul-fair f (fin false m e) (fin false n d) g h k = clear-fair (round f false (m * up e * (n * up d)) (down e * down d)) (round-clear f (m * up e * (n * up d)) (down e * down d))
-mul-fair f (fin true m e) (fin false n d) g h k = round-zero f (m * up e * (n * up d)) (down e * down d) (ap (λ (x : ℕ). x * up e * (n * up d)) (eqb→eq m 0 h) ∙ simp zero-mul) (mul-pos (down-pos e) (down-pos d))
+mul-fair f (fin false m e) (fin false n d) g h k = clear-fair (round f false (m * up e * (n * up d)) (down e * down d))
+    (round-clear f (m * up e * (n * up d)) (down e * down d))
+mul-fair f (fin true m e) (fin false n d) g h k = round-zero f (m * up e * (n * up d)) (down e * down d)
+    (ap (λ (x : ℕ). x * up e * (n * up d)) (eqb→eq m 0 h) ∙ simp zero-mul) (mul-pos (down-pos e) (down-pos d))
 
 add-clear : (f : Format) (x y : Float) → T (positive x) → Fair y → Clear (add f x y)
 unfolding add lt sum
@@ -87,12 +89,15 @@ add-clear f (fin true m e) y h k = absurd h
 add-clear f (fin false m e) nan h k = tt
 add-clear f (fin false m e) (inf t) h k = k
 add-clear f (fin false m e) (fin false n d) h k = round-clear f (m * up e * down d + n * up d * down e) (down e * down d)
-add-clear f (fin false m e) (fin true n d) h k = on (ltb (m * up e * down d) (n * up d * down e)) (λ l. no (m * up e * down d) (n * up d * down e) (ltb→lt (m * up e * down d) (n * up d * down e) l) (ap (λ (x : ℕ). x * up d * down e) (eqb→eq n 0 k) ∙ simp zero-mul))
+add-clear f (fin false m e) (fin true n d) h k = on (ltb (m * up e * down d) (n * up d * down e))
+    (λ l. no (m * up e * down d) (n * up d * down e) (ltb→lt (m * up e * down d) (n * up d * down e) l)
+    (ap (λ (x : ℕ). x * up d * down e) (eqb→eq n 0 k) ∙ simp zero-mul))
   where
     no : (a b : ℕ) → a < b → b ≡ 0 → ⊥
     no a b l p = omega arith
 
-    on : (b : Bool) → (T b → ⊥) → Clear (cond b (round f true (n * up d * down e - m * up e * down d) (down e * down d)) (round f (false && ltb (n * up d * down e) (m * up e * down d)) (m * up e * down d - n * up d * down e) (down e * down d)))
+    on : (b : Bool) → (T b → ⊥) → Clear (cond b (round f true (n * up d * down e - m * up e * down d) (down e * down d))
+        (round f (false && ltb (n * up d * down e) (m * up e * down d)) (m * up e * down d - n * up d * down e) (down e * down d)))
     on true g = absurd (g tt)
     on false g = round-clear f (m * up e * down d - n * up d * down e) (down e * down d)
 
@@ -124,7 +129,8 @@ scaled-clear tol x y h =
     let q = both (finite (tol .relative)) _ (p .1) in
     div-clear binary64 (magnitude (sub binary64 y x)) (scaleOf tol x y) (magnitude-clear (sub binary64 y x))
     (add-clear binary64 (tol .absolute) (mul binary64 (tol .relative) (larger (magnitude x) (magnitude y))) (p .0)
-    (mul-fair binary64 (tol .relative) (larger (magnitude x) (magnitude y)) (q .0) (nonnegative→atLeastZero (tol .relative) (p .1)) (larger-clear (magnitude x) (magnitude y) (magnitude-clear x) (magnitude-clear y))))
+    (mul-fair binary64 (tol .relative) (larger (magnitude x) (magnitude y)) (q .0) (nonnegative→atLeastZero (tol .relative) (p .1))
+    (larger-clear (magnitude x) (magnitude y) (magnitude-clear x) (magnitude-clear y))))
 
 clear-finite : (x : Float) → Clear x → T (le x one) → T (finite x)
 unfolding le

@@ -7,7 +7,8 @@ use native.Mathlib.Omega.{arith}
 use lib.Ieee.{Float}
 use Rattle.cycle.specs.Closed.{Timed, stopped, then}
 
-pub stays : {A : Type 0} (f : ℕ → Timed A) (step : ℕ → A → Timed A) → ((k : ℕ) → f (suc k) ≡ then (f k) (step k)) → (k n : ℕ) → k ≤ n → {c : ℕ} {t : Float} → f k ≡ stopped c t → f n ≡ stopped c t
+pub stays : {A : Type 0} (f : ℕ → Timed A) (step : ℕ → A → Timed A) → ((k : ℕ) → f (suc k) ≡ then (f k) (step k)) → (k n : ℕ) → k ≤ n
+    → {c : ℕ} {t : Float} → f k ≡ stopped c t → f n ≡ stopped c t
 stays f step h k zero l e = ap f (none k l) ∙ e
   where
     none : (k : ℕ) → k ≤ 0 → 0 ≡ k

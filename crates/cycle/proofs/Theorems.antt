@@ -21,9 +21,13 @@ use Rattle.protocol.proofs.Conditions.{stop-numbers}
 use Rattle.protocol.proofs.Theorems.{plain-run}
 use Rattle.cycle.specs.declared.SteadyStateTolerance.{SteadyStateTolerance}
 use Rattle.cycle.specs.Elimination.{System, systemOf, leastPivot, pivotOf, pivotPasses, exchanged, reduced, eliminateColumn, eliminateTo, solveTo, solve}
-use Rattle.cycle.specs.Closed.{Timed, stopped, got, then, tolerancePasses, divided, ready, homogeneous, lastPost, endOf, unit, lastOf, columnsTo, solution, candidateOf, greatestTo, residualsOf, Solved, accepted, closed}
-use Rattle.cycle.specs.ClosedCycle.{TimesFit, closedNumbers, Yields, Accepts, Rejects, candidate-fails, run-stops, state-fails, largestTo, Answers, EveryClosedCycle}
-use Rattle.cycle.proofs.Results.{Gives, gives-then, gives-last, Hands, hands-then, hands-test, hands-map, hands-self, hands-got, hands-number, no-answer, same-answer, same-refusal, hands-untimed, among, test-passes, test-fails}
+use Rattle.cycle.specs.Closed.{Timed, stopped, got, then, tolerancePasses, divided, ready, homogeneous, lastPost, endOf, unit}
+use Rattle.cycle.specs.Closed.{lastOf, columnsTo, solution, candidateOf, checkedMaximumTo, residualsOf, SteadyState, accepted}
+use Rattle.cycle.specs.Closed.{closed}
+use Rattle.cycle.specs.ClosedCycle.{TimesFit, closedNumbers, Yields, Accepts, Rejects, candidate-fails, run-stops, state-fails}
+use Rattle.cycle.specs.ClosedCycle.{maximumTo, CandidateAnswer, EveryClosedCycle}
+use Rattle.cycle.proofs.Results.{Gives, gives-then, gives-last, Hands, hands-then, hands-test, hands-map, hands-self, hands-got}
+use Rattle.cycle.proofs.Results.{hands-number, no-answer, same-answer, same-refusal, hands-untimed, among, test-passes, test-fails}
 use Rattle.cycle.proofs.InnerRuns.{Ready, ready-hands, Inner, ready-inner, run-leaves}
 use Rattle.cycle.proofs.Candidates.{solution-yields, yields-solution, candidate-yields, yields-candidate}
 use Rattle.cycle.proofs.Residuals.{Greatest, greatest-hands, small-greatest, fails-greatest, greatest-fails}
@@ -32,7 +36,8 @@ use Rattle.cycle.proofs.Residuals.{Greatest, greatest-hands, small-grea
 set-nonnegative : (xs : List Float) (i : ℕ) (x : Float) → T (all nonnegative xs) → T (nonnegative x) → T (all nonnegative (set xs i x))
 set-nonnegative [] i x h k = tt
 set-nonnegative (y ∷ ys) zero x h k = and-T (nonnegative x) (all nonnegative ys) k (both (nonnegative y) (all nonnegative ys) h .1)
-set-nonnegative (y ∷ ys) (suc i) x h k = let p = both (nonnegative y) (all nonnegative ys) h in and-T (nonnegative y) (all nonnegative (set ys i x)) (p .0) (set-nonnegative ys i x (p .1) k)
+set-nonnegative (y ∷ ys) (suc i) x h k = let p = both (nonnegative y) (all nonnegative ys) h in and-T (nonnegative y)
+    (all nonnegative (set ys i x)) (p .0) (set-nonnegative ys i x (p .1) k)
 
 zeros-nonnegative : (n : ℕ) → T (all nonnegative (replicate n plusZero))
 unfolding lt
@@ -47,7 +52,9 @@ zeros-pass n = amounts-pass n (replicate n plusZero) (length-replicate n plusZer
 
 unit-pass : (n j : ℕ) → T (amountsPass n (unit n j))
 unfolding unit lt
-unit-pass n j = amounts-pass n (unit n j) (length-set (replicate n plusZero) j one ∙ length-replicate n plusZero) (set-nonnegative (replicate n plusZero) j one (zeros-nonnegative n) tt)
+unit-pass n j =
+    amounts-pass n (unit n j) (length-set (replicate n plusZero) j one ∙ length-replicate n plusZero)
+    (set-nonnegative (replicate n plusZero) j one (zeros-nonnegative n) tt)
 
 -- ---- elimination: 33, or n amounts
 abbrev Sized : ℕ → List Float → Type 0
@@ -62,18 +69,21 @@ eliminate-gives : (n : ℕ) (least : Float) (s : System) (k : ℕ) → Gives (33
 unfolding eliminateTo eliminateColumn
 eliminate-gives n least s zero = tt
 eliminate-gives n least s (suc k) =
-    gives-then (33 ∷ []) (λ (_ : System). Unit {0}) (λ (_ : System). Unit {0}) (eliminateTo n least s k) (eliminateColumn n least k) (eliminate-gives n least s k)
-    (λ t _. let p = pivotOf n (t .matrix) k in gives-last (33 ∷ []) (λ (_ : System). Unit {0}) (pivotPasses least (at (t .matrix) p k)) 33 (reduced n k (exchanged k p t)) tt (λ _. tt))
+    gives-then (33 ∷ []) (λ (_ : System). Unit {0}) (λ (_ : System). Unit {0}) (eliminateTo n least s k) (eliminateColumn n least k)
+    (eliminate-gives n least s k)
+    (λ t _. let p = pivotOf n (t .matrix) k in gives-last (33 ∷ []) (λ (_ : System). Unit {0}) (pivotPasses least (at (t .matrix) p k)) 33
+    (reduced n k (exchanged k p t)) tt (λ _. tt))
 
 solve-gives : (n : ℕ) (s : System) → Gives (33 ∷ []) (Sized n) (solve n s)
 unfolding solve
 solve-gives n s =
-    gives-then (33 ∷ []) (Sized n) (λ (_ : System). Unit {0}) (eliminateTo n (leastPivot n (s .matrix)) s n) (λ t. done (solveTo n t n)) (eliminate-gives n (leastPivot n (s .matrix)) s n)
+    gives-then (33 ∷ []) (Sized n) (λ (_ : System). Unit {0}) (eliminateTo n (leastPivot n (s .matrix)) s n) (λ t. done (solveTo n t n))
+    (eliminate-gives n (leastPivot n (s .matrix)) s n)
     (λ t _. solve-sized n t n)
 
 -- ---- an inner run, and the answer for a candidate whose run ends with e
-abbrev answerOf : ℕ → List Float → List Float → Float → Solved
-answerOf n c e m = record { amounts = c; residuals = residualsOf n c e; greatest = m }
+abbrev answerOf : ℕ → List Float → List Float → Float → SteadyState
+answerOf n c e m = record { amounts = c; residuals = residualsOf n c e; maximum = m }
 
 record Ends (advance : Propagator) (n : ℕ) (w : Window) (fs : List Event) (a e : List Float) : Type 0 where
   left : State
@@ -81,7 +91,8 @@ record Ends (advance : Propagator) (n : ℕ) (w : Window) (fs : List Event) (a e
   last : lastPost [] (left .rows) ≡ e
 
 module _ (n : ℕ) (advance : Propagator) {Refuses : Conditions} (laws : KernelLaws n advance Refuses) (w : Window) where
-  run-hands : (fs : List Event) → Prepared n (divided n w) [] fs → Cycle (divided n w) → (a : List Float) → T (amountsPass n a) → Hands closedNumbers (Ends advance n w fs a) (lastOf advance n w fs a)
+  run-hands : (fs : List Event) → Prepared n (divided n w) [] fs → Cycle (divided n w) → (a : List Float) → T (amountsPass n a)
+      → Hands closedNumbers (Ends advance n w fs a) (lastOf advance n w fs a)
   unfolding lastOf
   run-hands fs p k a h = on (runOf advance n (divided n w) [] fs a) refl
     where
@@ -104,58 +115,67 @@ module _ (n : ℕ) (advance : Propagator) {Refuses : Conditions} (laws : KernelL
     solution-hands : Hands closedNumbers (Sized n) (solution advance n w fs)
     unfolding solution
     solution-hands =
-        hands-then closedNumbers (Sized n) (Ends advance n w fs (replicate n plusZero)) (lastOf advance n w fs (replicate n plusZero)) _ (run-hands fs (i .prepared) (i .cycle) (replicate n plusZero) (zeros-pass n))
+        hands-then closedNumbers (Sized n) (Ends advance n w fs (replicate n plusZero)) (lastOf advance n w fs (replicate n plusZero)) _
+        (run-hands fs (i .prepared) (i .cycle) (replicate n plusZero) (zeros-pass n))
         (λ b _. hands-then closedNumbers (Sized n) Any (columnsTo advance n w fs n) _ (columns-hands n)
         (λ cs _. hands-untimed (33 ∷ []) closedNumbers (Sized n) (solve n (systemOf n cs b)) tt (solve-gives n (systemOf n cs b))))
 
     -- ---- the candidate: accepted, with its answer
-    abbrev Accepted : SteadyStateTolerance → List Float → Solved → Type 0
-    Accepted tol c s = (a : Accepts advance n w tol fs c) × Answers n tol c (lastPost [] (a .left .rows)) s
+    abbrev Accepted : SteadyStateTolerance → List Float → SteadyState → Type 0
+    Accepted tol c s = (a : Accepts advance n w tol fs c) × CandidateAnswer n tol c (lastPost [] (a .left .rows)) s
 
     accepted-hands : (tol : SteadyStateTolerance) (c : List Float) → Sized n c → Hands closedNumbers (Accepted tol c) (accepted advance n w tol fs c)
     unfolding accepted
     accepted-hands tol c l =
         hands-test closedNumbers (Accepted tol c) (all nonnegative c) 34 c _ tt
-        (λ f. hands-then closedNumbers (Accepted tol c) (Ends advance n w fs c) (lastOf advance n w fs c) _ (run-hands fs (i .prepared) (i .cycle) c (amounts-pass n c l f))
-        (λ e h. hands-then closedNumbers (Accepted tol c) (Greatest tol c e n) (greatestTo tol c e n) _ (greatest-hands tol c e n) (on f e h)))
+        (λ f. hands-then closedNumbers (Accepted tol c) (Ends advance n w fs c) (lastOf advance n w fs c) _
+        (run-hands fs (i .prepared) (i .cycle) c (amounts-pass n c l f))
+        (λ e h. hands-then closedNumbers (Accepted tol c) (Greatest tol c e n) (checkedMaximumTo tol c e n) _ (greatest-hands tol c e n) (on f e h)))
       where
         on : T (all nonnegative c) → (e : List Float) → Ends advance n w fs c e → (m : Float) → Greatest tol c e n m → Accepted tol c (answerOf n c e m)
         on f e h = subst (λ (e : List Float). (m : Float) → Greatest tol c e n m → Accepted tol c (answerOf n c e m)) (h .last)
             (λ m g. (
               record { passes = f; left = h .left; reaches = h .ran; scales = λ j l. g .0 j l .scale; residuals = λ j l. g .0 j l .residual },
-              record { amounts = refl; residuals = refl; greatest = g .1 },
+              record { amounts = refl; residuals = refl; maximum = g .1 },
             ))
 
 -- ---- the conditions suffice
-module _ (advance : Propagator) (n : ℕ) (w : Window) (tol : SteadyStateTolerance) (fs : List Event) (c : List Float) (ok : T (tolerancePasses tol)) (h : Accepts advance n w tol fs c) where
+module _ (advance : Propagator) (n : ℕ) (w : Window) (tol : SteadyStateTolerance) (fs : List Event) (c : List Float)
+    (ok : T (tolerancePasses tol)) (h : Accepts advance n w tol fs c) where
   abbrev end : List Float
   end = lastPost [] (h .left .rows)
 
-  accepts-accepted : accepted advance n w tol fs c ≡ got (answerOf n c end (largestTo tol c end n))
+  accepts-accepted : accepted advance n w tol fs c ≡ got (answerOf n c end (maximumTo tol c end n))
   unfolding accepted lastOf
   accepts-accepted =
-      ap (λ (r : Timed (List Float)). then r (λ a. then (lastOf advance n w fs a) (λ e. then (greatestTo tol a e n) (λ m. got (answerOf n a e m))))) (test-passes (all nonnegative c) 34 c (h .passes))
-      ∙ ap (λ (o : Outcome). then (endOf o) (λ e. then (greatestTo tol c e n) (λ m. got (answerOf n c e m)))) (h .reaches)
-      ∙ ap (λ (r : Timed Float). then r (λ m. got (answerOf n c end m))) (small-greatest tol c end n ok (λ i l. record { scale = h .scales i l; residual = h .residuals i l }))
+      ap (λ (r : Timed (List Float)). then r (λ a. then (lastOf advance n w fs a) (λ e. then (checkedMaximumTo tol a e n)
+      (λ m. got (answerOf n a e m))))) (test-passes (all nonnegative c) 34 c (h .passes))
+      ∙ ap (λ (o : Outcome). then (endOf o) (λ e. then (checkedMaximumTo tol c e n) (λ m. got (answerOf n c e m)))) (h .reaches)
+      ∙ ap (λ (r : Timed Float). then r (λ m. got (answerOf n c end m))) (small-greatest tol c end n ok
+      (λ i l. record { scale = h .scales i l; residual = h .residuals i l }))
 
 -- ---- and else the first test that fails refuses
 module _ (advance : Propagator) (n : ℕ) (w : Window) (tol : SteadyStateTolerance) (fs : List Event) (c : List Float) (ok : T (tolerancePasses tol)) where
   -- behind the candidate's run, and behind the test of the candidate
-  abbrev judging : Outcome → Timed Solved
-  judging o = then (endOf o) (λ e. then (greatestTo tol c e n) (λ m. got (answerOf n c e m)))
+  abbrev judging : Outcome → Timed SteadyState
+  judging o = then (endOf o) (λ e. then (checkedMaximumTo tol c e n) (λ m. got (answerOf n c e m)))
 
   running : T (all nonnegative c) → accepted advance n w tol fs c ≡ judging (runOf advance n (divided n w) [] fs c)
   unfolding accepted lastOf
-  running h = ap (λ (r : Timed (List Float)). then r (λ a. then (lastOf advance n w fs a) (λ e. then (greatestTo tol a e n) (λ m. got (answerOf n a e m))))) (test-passes (all nonnegative c) 34 c h)
+  running h =
+      ap (λ (r : Timed (List Float)). then r (λ a. then (lastOf advance n w fs a) (λ e. then (checkedMaximumTo tol a e n)
+      (λ m. got (answerOf n a e m))))) (test-passes (all nonnegative c) 34 c h)
 
   failing : T (not (all nonnegative c)) → accepted advance n w tol fs c ≡ stopped 34 plusZero
   unfolding accepted
-  failing h = ap (λ (r : Timed (List Float)). then r (λ a. then (lastOf advance n w fs a) (λ e. then (greatestTo tol a e n) (λ m. got (answerOf n a e m))))) (test-fails (all nonnegative c) 34 c h)
+  failing h =
+      ap (λ (r : Timed (List Float)). then r (λ a. then (lastOf advance n w fs a) (λ e. then (checkedMaximumTo tol a e n)
+      (λ m. got (answerOf n a e m))))) (test-fails (all nonnegative c) 34 c h)
 
   accepted-rejects : (m : ℕ) (t : Float) → accepted advance n w tol fs c ≡ stopped m t → Rejects advance n w tol fs c m t
   accepted-rejects m t q = on (all nonnegative c) (λ b. b) (λ b. b)
     where
-      is : {k : ℕ} {u : Float} → _≡_ {A = Timed Solved} (stopped k u) (stopped m t) → Rejects advance n w tol fs c k u → Rejects advance n w tol fs c m t
+      is : {k : ℕ} {u : Float} → _≡_ {A = Timed SteadyState} (stopped k u) (stopped m t) → Rejects advance n w tol fs c k u → Rejects advance n w tol fs c m t
       is {u = u} p h = let e = same-refusal p in subst (Rejects advance n w tol fs c m) (e .1) (subst (λ (k : ℕ). Rejects advance n w tol fs c k u) (e .0) h)
 
       greatest : (e : List Float) (r : Timed Float) → then r (λ m. got (answerOf n c e m)) ≡ stopped m t → r ≡ stopped m t
@@ -165,7 +185,8 @@ module _ (advance : Propagator) (n : ℕ) (w : Window) (tol : SteadyStateToleran
       ran : T (all nonnegative c) → (o : Outcome) → runOf advance n (divided n w) [] fs c ≡ o → judging o ≡ stopped m t → Rejects advance n w tol fs c m t
       ran h (stop k u z) e p = is p (run-stops h e)
       ran h (go z) e p =
-          let f = greatest-fails tol c (lastPost [] (z .rows)) n m t ok (greatest (lastPost [] (z .rows)) (greatestTo tol c (lastPost [] (z .rows)) n) p) in
+          let f = greatest-fails tol c (lastPost [] (z .rows)) n m t ok (greatest (lastPost [] (z .rows))
+          (checkedMaximumTo tol c (lastPost [] (z .rows)) n) p) in
           subst (Rejects advance n w tol fs c m) (sym (f .1)) (state-fails h e (f .0))
 
       on : (b : Bool) → (T b → T (all nonnegative c)) → (T (not b) → T (not (all nonnegative c))) → Rejects advance n w tol fs c m t
@@ -180,12 +201,13 @@ module _ (advance : Propagator) (n : ℕ) (w : Window) (tol : SteadyStateToleran
       running h ∙ ap judging e ∙ ap (λ (r : Timed Float). then r (λ g. got (answerOf n c end g))) (fails-greatest tol c end n m ok f)
 
 -- ---- the whole
-module _ (n : ℕ) (advance : Propagator) {Refuses : Conditions} (laws : KernelLaws n advance Refuses) (w : Window) (ss : List Float) (es : List Event) (tol : SteadyStateTolerance) (fit : TimesFit w es) where
-  abbrev whole : Timed Solved
+module _ (n : ℕ) (advance : Propagator) {Refuses : Conditions} (laws : KernelLaws n advance Refuses) (w : Window) (ss : List Float)
+    (es : List Event) (tol : SteadyStateTolerance) (fit : TimesFit w es) where
+  abbrev whole : Timed SteadyState
   whole = closed advance n w ss es tol true
 
   -- an answer's amounts are a candidate
-  abbrev Closes : Solved → Type 0
+  abbrev Closes : SteadyState → Type 0
   Closes s = Yields advance n w ss es tol (s .amounts)
 
   closed-hands : Hands closedNumbers Closes whole
@@ -194,7 +216,8 @@ module _ (n : ℕ) (advance : Propagator) {Refuses : Conditions} (laws : KernelL
       hands-then closedNumbers Closes (λ (fs : List Event). (ready n w ss es tol ≡ got fs) × Ready n w es tol fs) (ready n w ss es tol) _
       (hands-self closedNumbers (Ready n w es tol) (ready n w ss es tol) (ready-hands n w ss es tol))
       (λ fs q. let i = ready-inner n w ss es tol fs fit (q .0) in
-      hands-then closedNumbers Closes (λ (c : List Float). (solution advance n w fs ≡ got c) × Sized n c) (solution advance n w fs) (accepted advance n w tol fs)
+      hands-then closedNumbers Closes (λ (c : List Float). (solution advance n w fs ≡ got c) × Sized n c) (solution advance n w fs)
+      (accepted advance n w tol fs)
       (hands-self closedNumbers (Sized n) (solution advance n w fs) (solution-hands n advance laws w es fs i))
       (λ c g. hands-map closedNumbers (Accepted n advance laws w es fs i tol c) Closes (accepted advance n w tol fs c)
       (λ s h. subst (Yields advance n w ss es tol) (sym (h .1 .amounts)) (solution-yields advance n w ss es tol c fs (q .0) (g .0)))
@@ -209,7 +232,9 @@ module _ (n : ℕ) (advance : Propagator) {Refuses : Conditions} (laws : KernelL
     inner = ready-inner n w ss es tol (y .folded) fit (y .prepared)
 
     sized : Sized n c
-    sized = hands-got closedNumbers (Sized n) (solution advance n w (y .folded)) c (solution-hands n advance laws w es (y .folded) inner) (yields-solution advance n w ss es tol c y)
+    sized =
+        hands-got closedNumbers (Sized n) (solution advance n w (y .folded)) c (solution-hands n advance laws w es (y .folded) inner)
+        (yields-solution advance n w ss es tol c y)
 
     closed-is : whole ≡ accepted advance n w tol (y .folded) c
     unfolding closed
@@ -217,10 +242,12 @@ module _ (n : ℕ) (advance : Propagator) {Refuses : Conditions} (laws : KernelL
         ap (λ (r : Timed (List Event)). then r (λ fs. then (solution advance n w fs) (accepted advance n w tol fs))) (y .prepared)
         ∙ ap (λ (r : Timed (List Float)). then r (accepted advance n w tol (y .folded))) (yields-solution advance n w ss es tol c y)
 
-    to : (s : Solved) × (whole ≡ got s) → Accepts advance n w tol (y .folded) c
-    to (s, q) = hands-got closedNumbers (Accepted n advance laws w es (y .folded) inner tol c) (accepted advance n w tol (y .folded) c) s (accepted-hands n advance laws w es (y .folded) inner tol c sized) (sym closed-is ∙ q) .0
+    to : (s : SteadyState) × (whole ≡ got s) → Accepts advance n w tol (y .folded) c
+    to (s, q) = hands-got closedNumbers (Accepted n advance laws w es (y .folded) inner tol c) (accepted advance n w tol (y .folded) c) s
+        (accepted-hands n advance laws w es (y .folded) inner tol c sized) (sym closed-is ∙ q) .0
 
-    fro : (a : Accepts advance n w tol (y .folded) c) → whole ≡ got (answerOf n c (lastPost [] (a .left .rows)) (largestTo tol c (lastPost [] (a .left .rows)) n))
+    fro : (a : Accepts advance n w tol (y .folded) c) → whole
+        ≡ got (answerOf n c (lastPost [] (a .left .rows)) (maximumTo tol c (lastPost [] (a .left .rows)) n))
     fro a = closed-is ∙ accepts-accepted advance n w tol (y .folded) c (at-hand .tolerance) a
 
     rejected : (m : ℕ) (t : Float) → (whole ≡ stopped m t) ↔ Rejects advance n w tol (y .folded) c m t
@@ -229,8 +256,14 @@ module _ (n : ℕ) (advance : Propagator) {Refuses : Conditions} (laws : KernelL
       λ h. closed-is ∙ rejects-accepted advance n w tol (y .folded) c (at-hand .tolerance) h,
     )
 
-    answers : (a : Accepts advance n w tol (y .folded) c) (s : Solved) → whole ≡ got s → Answers n tol c (lastPost [] (a .left .rows)) s
-    answers a s q = let e = same-answer (sym q ∙ fro a) in record { amounts = ap (λ (x : Solved). x .amounts) e; residuals = ap (λ (x : Solved). x .residuals) e; greatest = ap (λ (x : Solved). x .greatest) e }
+    answers : (a : Accepts advance n w tol (y .folded) c) (s : SteadyState) → whole ≡ got s → CandidateAnswer n tol c (lastPost [] (a .left .rows)) s
+    answers a s q = let e =
+        same-answer (sym q ∙ fro a) in record {
+          amounts = ap (λ (x : SteadyState). x .amounts) e;
+          residuals = ap
+              (λ (x : SteadyState). x .residuals) e;
+          maximum = ap (λ (x : SteadyState). x .maximum) e;
+        }
 
     ends : (a : Accepts advance n w tol (y .folded) c) → Reached n (divided n w) [] (y .folded) (a .left) × (lastPost [] (a .left .rows) ≡ a .left .amounts)
     ends a = (
@@ -242,18 +275,23 @@ module _ (n : ℕ) (advance : Propagator) {Refuses : Conditions} (laws : KernelL
   unfolding candidateOf closed
   refuses c t = on (ready n w ss es tol)
     where
-      on : (r : Timed (List Event)) → then r (solution advance n w) ≡ stopped c t → then r (λ fs. then (solution advance n w fs) (accepted advance n w tol fs)) ≡ stopped c t
+      on : (r : Timed (List Event)) → then r (solution advance n w) ≡ stopped c t
+          → then r (λ fs. then (solution advance n w fs) (accepted advance n w tol fs)) ≡ stopped c t
       on (stopped k u) q = cc
       on (got fs) q = ap (λ (r : Timed (List Float)). then r (accepted advance n w tol fs)) q
 
 pub closed-cycle : EveryClosedCycle
 closed-cycle n advance Refuses laws w ss es tol fit = record {
-  numbers = λ c t q. hands-number closedNumbers (Closes n advance laws w ss es tol fit) (closed advance n w ss es tol true) c t (closed-hands n advance laws w ss es tol fit) q;
+  numbers =
+      λ c t q. hands-number closedNumbers (Closes n advance laws w ss es tol fit) (closed advance n w ss es tol true) c t
+      (closed-hands n advance laws w ss es tol fit) q;
   yields = λ c. (candidate-yields advance n w ss es tol c, yields-candidate advance n w ss es tol c);
   accepts = λ c y. (to n advance laws w ss es tol fit c y, λ a. (_, fro n advance laws w ss es tol fit c y a));
   rejects = rejected n advance laws w ss es tol fit;
   answer = answers n advance laws w ss es tol fit;
-  needs = λ s q. hands-got closedNumbers (Closes n advance laws w ss es tol fit) (closed advance n w ss es tol true) s (closed-hands n advance laws w ss es tol fit) q;
+  needs =
+      λ s q. hands-got closedNumbers (Closes n advance laws w ss es tol fit) (closed advance n w ss es tol true) s
+      (closed-hands n advance laws w ss es tol fit) q;
   refuses = refuses n advance laws w ss es tol fit;
   ends = ends n advance laws w ss es tol fit;
 }

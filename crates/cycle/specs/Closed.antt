@@ -1,5 +1,6 @@
 -- 01, "The closed cycle": from the list of a cycle to the candidate, and from that to amounts, residuals and the greatest scaled one, or a refusal.
--- Rust: `periodic_steady_state`, linear_pk/steady_state.rs. The kernel's advance is a parameter, n its states. 5 and the kernel's own numbers stand with the library's entry. Definitions only.
+-- Rust: `periodic_steady_state`, linear_pk/steady_state.rs. The kernel's advance is a parameter, n its states. 5 and the kernel's own
+-- numbers stand with the library's entry. Definitions only.
 use Prim.Native.Nat.{ℕ, zero, suc, _+_, _/_}
 use mathlib.Core.Bool.{Bool, true, false, not, _&&_}
 use mathlib.Core.List.{List, [], _∷_, _++_, map}
@@ -133,30 +134,30 @@ judged tol start end m =
     (λ m. unlessFails (finite (scaledOf tol start end) && not (lt one (scaledOf tol start end))) 36 (larger m (scaledOf tol start end)))
 
 -- the greatest scaled residual of the first k states, from +0
-unfoldable pub greatestTo : SteadyStateTolerance → List Float → List Float → ℕ → Timed Float
+unfoldable pub checkedMaximumTo : SteadyStateTolerance → List Float → List Float → ℕ → Timed Float
 unfolding judged
-greatestTo tol a e zero = got plusZero
-greatestTo tol a e (suc k) = then (greatestTo tol a e k) (judged tol (cell a k) (cell e k))
+checkedMaximumTo tol a e zero = got plusZero
+checkedMaximumTo tol a e (suc k) = then (checkedMaximumTo tol a e k) (judged tol (cell a k) (cell e k))
 
 -- end minus start
 unfoldable pub residualsOf : ℕ → List Float → List Float → List Float
 residualsOf n a e = tabulate n (λ i. sub binary64 (cell e i) (cell a i))
 
-pub record Solved : Type 0 where
+pub record SteadyState : Type 0 where
   pub amounts : List Float
   pub residuals : List Float
-  pub greatest : Float
+  pub maximum : Float
 
 -- 34; the candidate's run; state by state 35 and 36
-unfoldable pub accepted : Propagator → ℕ → Window → SteadyStateTolerance → List Event → List Float → Timed Solved
-unfolding lastOf greatestTo residualsOf
+unfoldable pub accepted : Propagator → ℕ → Window → SteadyStateTolerance → List Event → List Float → Timed SteadyState
+unfolding lastOf checkedMaximumTo residualsOf
 accepted advance n w tol fs a =
     then (unlessFails (all nonnegative a) 34 a)
     (λ a. then (lastOf advance n w fs a)
-    (λ e. then (greatestTo tol a e n) (λ m. got (record { amounts = a; residuals = residualsOf n a e; greatest = m }))))
+    (λ e. then (checkedMaximumTo tol a e n) (λ m. got (record { amounts = a; residuals = residualsOf n a e; maximum = m }))))
 
 -- `room` says whether the lent slices have n cells each: 4 comes behind the preparation
-unfoldable pub closed : Propagator → ℕ → Window → List Float → List Event → SteadyStateTolerance → Bool → Timed Solved
+unfoldable pub closed : Propagator → ℕ → Window → List Float → List Event → SteadyStateTolerance → Bool → Timed SteadyState
 unfolding ready solution accepted
 closed advance n w ss es tol room =
     then (ready n w ss es tol)
@@ -164,16 +165,16 @@ closed advance n w ss es tol room =
 
 -- ---- the reply, and the slices at exit
 -- 0 is the number of an accepted cycle
-pub record SteadyReply : Type 0 where
+pub record SteadyReport : Type 0 where
   pub number : ℕ
   pub time : Float
-  pub greatest : Float
+  pub maximum : Float
 
-abbrev pub steadyReplyOf : Timed Solved → SteadyReply
-steadyReplyOf (stopped c t) = record { number = c; time = t; greatest = plusZero }
-steadyReplyOf (got s) = record { number = 0; time = plusZero; greatest = s .greatest }
+abbrev pub steadyReportOf : Timed SteadyState → SteadyReport
+steadyReportOf (stopped c t) = record { number = c; time = t; maximum = plusZero }
+steadyReportOf (got s) = record { number = 0; time = plusZero; maximum = s .maximum }
 
 -- the answer from the front and the old cells behind it; all old cells at a refusal
-abbrev pub answerAtExit : (Solved → List Float) → Timed Solved → List Float → List Float
+abbrev pub answerAtExit : (SteadyState → List Float) → Timed SteadyState → List Float → List Float
 answerAtExit part (stopped c t) old = old
 answerAtExit part (got s) old = part s ++ drop (length (part s)) old

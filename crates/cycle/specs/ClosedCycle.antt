@@ -1,4 +1,5 @@
--- Demand 3's claim about a closed cycle whose lent slices have room, over every propagator with the laws of a kernel, every window, list, samples and tolerance. A claim, no proof.
+-- Demand 3's claim about a closed cycle whose lent slices have room, over every propagator with the laws of a kernel, every window, list,
+-- samples and tolerance. A claim, no proof.
 use mathlib.Core.Path.{_≡_}
 use Prim.Native.Nat.{ℕ, zero, suc, _<_}
 use mathlib.Core.Bool.{true, not}
@@ -19,7 +20,8 @@ use Rattle.protocol.specs.Execute.{Propagator, State, go, stop, runOf}
 use Rattle.protocol.specs.PlainRun.{oneOf, Conditions, KernelLaws, Reached}
 use Rattle.cycle.specs.declared.SteadyStateTolerance.{SteadyStateTolerance}
 use Rattle.cycle.specs.Elimination.{systemOf, solve}
-use Rattle.cycle.specs.Closed.{stopped, got, divided, ready, homogeneous, lastPost, unit, lastOf, candidateOf, scaleOf, scaledOf, residualsOf, Solved, closed}
+use Rattle.cycle.specs.Closed.{stopped, got, divided, ready, homogeneous, lastPost, unit, lastOf, candidateOf, scaleOf, scaledOf}
+use Rattle.cycle.specs.Closed.{residualsOf, SteadyState, closed}
 
 -- ---- what is given
 -- the times are doubles
@@ -83,37 +85,43 @@ pub data Rejects (advance : Propagator) (n : ℕ) (w : Window) (tol : SteadyStat
   -- else the number and the time of its own run
   run-stops : {m : ℕ} {t : Float} {z : State} → T (all nonnegative c) → runOf advance n (divided n w) [] fs c ≡ stop m t z → Rejects advance n w tol fs c m t
   -- else 35 or 36 of the first state that fails
-  state-fails : {m : ℕ} {z : State} → T (all nonnegative c) → runOf advance n (divided n w) [] fs c ≡ go z → FirstFails tol c (lastPost [] (z .rows)) n m → Rejects advance n w tol fs c m plusZero
+  state-fails : {m : ℕ} {z : State} → T (all nonnegative c) → runOf advance n (divided n w) [] fs c ≡ go z
+      → FirstFails tol c (lastPost [] (z .rows)) n m → Rejects advance n w tol fs c m plusZero
 
 -- ---- the answer
 -- the greatest of the first k scaled residuals, from +0
-unfoldable pub largestTo : SteadyStateTolerance → List Float → List Float → ℕ → Float
-largestTo tol a e zero = plusZero
-largestTo tol a e (suc k) = larger (largestTo tol a e k) (scaledOf tol (cell a k) (cell e k))
+unfoldable pub maximumTo : SteadyStateTolerance → List Float → List Float → ℕ → Float
+maximumTo tol a e zero = plusZero
+maximumTo tol a e (suc k) = larger (maximumTo tol a e k) (scaledOf tol (cell a k) (cell e k))
 
 -- the answer for the candidate c whose run ends with e
-pub record Answers (n : ℕ) (tol : SteadyStateTolerance) (c e : List Float) (s : Solved) : Type 0 where
+pub record CandidateAnswer (n : ℕ) (tol : SteadyStateTolerance) (c e : List Float) (s : SteadyState) : Type 0 where
   pub amounts : s .amounts ≡ c
   pub residuals : s .residuals ≡ residualsOf n c e
-  pub greatest : s .greatest ≡ largestTo tol c e n
+  pub maximum : s .maximum ≡ maximumTo tol c e n
 
 pub record ClosedCycle (advance : Propagator) (n : ℕ) (w : Window) (ss : List Float) (es : List Event) (tol : SteadyStateTolerance) : Type 0 where
   pub numbers : (c : ℕ) (t : Float) → closed advance n w ss es tol true ≡ stopped c t → T (oneOf c closedNumbers)
   -- the candidate is what elimination yields
   pub yields : (c : List Float) → (candidateOf advance n w ss es tol ≡ got c) ↔ Yields advance n w ss es tol c
   -- where there is one, some answer is given exactly when the candidate is accepted
-  pub accepts : (c : List Float) (y : Yields advance n w ss es tol c) → ((s : Solved) × (closed advance n w ss es tol true ≡ got s)) ↔ Accepts advance n w tol (y .folded) c
+  pub accepts : (c : List Float) (y : Yields advance n w ss es tol c) → ((s : SteadyState) × (closed advance n w ss es tol true ≡ got s))
+      ↔ Accepts advance n w tol (y .folded) c
   -- and the answer is the candidate, with the residuals of its own run
-  pub answer : (c : List Float) (y : Yields advance n w ss es tol c) (a : Accepts advance n w tol (y .folded) c) (s : Solved) → closed advance n w ss es tol true ≡ got s
-      → Answers n tol c (lastPost [] (a .left .rows)) s
+  pub answer : (c : List Float) (y : Yields advance n w ss es tol c) (a : Accepts advance n w tol (y .folded) c) (s : SteadyState)
+      → closed advance n w ss es tol true ≡ got s
+      → CandidateAnswer n tol c (lastPost [] (a .left .rows)) s
   -- and else the refusal is that of the first test that fails
-  pub rejects : (c : List Float) (y : Yields advance n w ss es tol c) (m : ℕ) (t : Float) → (closed advance n w ss es tol true ≡ stopped m t) ↔ Rejects advance n w tol (y .folded) c m t
+  pub rejects : (c : List Float) (y : Yields advance n w ss es tol c) (m : ℕ) (t : Float)
+      → (closed advance n w ss es tol true ≡ stopped m t) ↔ Rejects advance n w tol (y .folded) c m t
   -- no answer without a candidate; where there is none, the refusal ahead of it or 33 is the reply
-  pub needs : (s : Solved) → closed advance n w ss es tol true ≡ got s → Yields advance n w ss es tol (s .amounts)
+  pub needs : (s : SteadyState) → closed advance n w ss es tol true ≡ got s → Yields advance n w ss es tol (s .amounts)
   pub refuses : (c : ℕ) (t : Float) → candidateOf advance n w ss es tol ≡ stopped c t → closed advance n w ss es tol true ≡ stopped c t
   -- the run of an accepted candidate comes to the post row at the end, and that row holds the amounts it leaves
   pub ends : (c : List Float) (y : Yields advance n w ss es tol c) (a : Accepts advance n w tol (y .folded) c)
       → Reached n (divided n w) [] (y .folded) (a .left) × (lastPost [] (a .left .rows) ≡ a .left .amounts)
 
 abbrev pub EveryClosedCycle : Type 1
-EveryClosedCycle = (n : ℕ) (advance : Propagator) (Refuses : Conditions) → KernelLaws n advance Refuses → (w : Window) (ss : List Float) (es : List Event) (tol : SteadyStateTolerance) → TimesFit w es → ClosedCycle advance n w ss es tol
+EveryClosedCycle =
+    (n : ℕ) (advance : Propagator) (Refuses : Conditions) → KernelLaws n advance Refuses
+    → (w : Window) (ss : List Float) (es : List Event) (tol : SteadyStateTolerance) → TimesFit w es → ClosedCycle advance n w ss es tol

@@ -1,4 +1,5 @@
--- 01, "The closed cycle": Gaussian elimination with partial pivoting and back substitution (G. H. Golub and C. F. Van Loan, Matrix Computations, 4th ed., 2013, 3.4),
+-- 01, "The closed cycle": Gaussian elimination with partial pivoting and back substitution (G. H. Golub and C. F. Van Loan, Matrix
+-- Computations, 4th ed., 2013, 3.4),
 -- operation by operation. Rust: `solve`, linear_pk/steady_state.rs. Definitions only, over the size n in use.
 use Prim.Native.Nat.{ℕ, zero, suc, _+_, _-_}
 use mathlib.Core.Bool.{Bool, false, not, cond, _&&_}

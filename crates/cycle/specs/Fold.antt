@@ -1,5 +1,6 @@
 -- 01, "The folded cycle": what an infusion becomes within one period, and the list of a cycle, folded.
--- Rust: `normalize_periodic_cycle`, steady_state.rs. The numbers come in 01's order: 15, 13, then event by event 16, 17, 18, 13, at last 10, 11, 12. Definitions only.
+-- Rust: `normalize_periodic_cycle`, steady_state.rs. The numbers come in 01's order: 15, 13, then event by event 16, 17, 18, 13, at last
+-- 10, 11, 12. Definitions only.
 use Prim.Native.Nat.{ℕ}
 use mathlib.Core.Bool.{Bool, true, false, cond, _&&_}
 use mathlib.Core.List.{List, [], _∷_, _++_}
@@ -15,10 +16,6 @@ use Rattle.protocol.specs.declared.Event.the-variants.{Bolus, Infusion, Reset}
 use Rattle.protocol.specs.declared.Window.{Window}
 use Rattle.protocol.specs.Events.{time}
 use Rattle.protocol.specs.Prepare.{windowPasses, within, eventsPass}
-
--- the added limit of a cycle's list before it is folded
-abbrev pub mostCycleEvents : ℕ
-mostCycleEvents = 64
 
 abbrev pub period : Window → Float
 period w = sub binary64 (w .end) (w .start)
@@ -81,25 +78,25 @@ parts w t i r left =
     cond (lt plusZero left) (piece t i r (headOf w t left) ∷ tail w i r (sub binary64 left (headOf w t left))) []
 
 -- c whole periods if c is at least 1, and the remainder by % goes on
-unfoldable pub wholes : Window → Float → ℕ → Float → Float → Float → List Event
+unfoldable pub wholePeriods : Window → Float → ℕ → Float → Float → Float → List Event
 unfolding parts
-wholes w t i r left c = cond (le one c) (whole w i r c ∷ parts w t i r (rem binary64 left (period w))) (parts w t i r left)
+wholePeriods w t i r left c = cond (le one c) (whole w i r c ∷ parts w t i r (rem binary64 left (period w))) (parts w t i r left)
 
 -- whether there is a stopping reset at all on the target: then no whole periods; 18 where their count is not finite
-unfoldable pub lasting : Bool → Window → Float → ℕ → Float → Float → Result (List Event)
-unfolding parts wholes floorOf
-lasting true w t i r left = done (parts w t i r left)
-lasting false w t i r left =
+unfoldable pub infusionPieces : Bool → Window → Float → ℕ → Float → Float → Result (List Event)
+unfolding parts wholePeriods floorOf
+infusionPieces true w t i r left = done (parts w t i r left)
+infusionPieces false w t i r left =
     let c = floorOf (div binary64 left (period w)) in
-    unless (finite c) 18 (wholes w t i r left c)
+    unless (finite c) 18 (wholePeriods w t i r left c)
 
 -- the pieces of one event of the list es
 unfoldable pub pieces : Window → List Event → Event → Result (List Event)
-unfolding infusionPasses stopOf lasting stopping
+unfolding infusionPasses stopOf infusionPieces stopping
 pieces w es (Bolus t i a) = done (Bolus t i a ∷ [])
 pieces w es (Infusion t i a d) =
     andThen (unless (infusionPasses t a d) 17 (stopOf (period w) t i (add binary64 t d) es))
-    (λ stop. lasting (any (stopping i) es) w t i (div binary64 a d) (sub binary64 stop t))
+    (λ stop. infusionPieces (any (stopping i) es) w t i (div binary64 a d) (sub binary64 stop t))
 pieces w es (Reset t i v o c) = done (Reset t i v o c ∷ [])
 
 -- one event more, behind the list so far

@@ -1,5 +1,5 @@
 pub mod Fold
 pub mod Elimination
 pub mod Closed
-pub mod FoldedCycle
+pub mod FoldLaws
 pub mod ClosedCycle

@@ -1,26 +1,29 @@
 // The doses of a boundary: the resets by order, the boluses in list order, each checked.
 pub mod resets;
 
-use events::EVENTS;
+use events::Reals;
+use events::Words;
+use limits::EVENTS;
 use rows::Progress;
 ghost use mathlib.Core.List.{map, _++_};
 ghost use Prim.Native.Nat.{_≤_};
+ghost use Rattle.limits.specs.Limits.{states, mostEvents};
 ghost use Rattle.protocol.specs.Events.{resets, boluses};
 ghost use Rattle.protocol.specs.Schedule.{apply};
 ghost use Rattle.events.specs.Packed.{packed};
-ghost use Rattle.doses.specs.Places.{Places, listed};
+ghost use Rattle.doses.specs.Places.{Places, eventsPlaced};
 ghost use Rattle.doses_steps.specs.Takes.{Takes};
 
 // The boluses at t in list order.
 fn apply_boluses(
-    reals: &[[f64; 3]; EVENTS],
-    words: &[[usize; 4]; EVENTS],
+    reals: &Reals,
+    words: &Words,
     count: usize,
     n: usize,
     t: f64,
     start: Progress,
 ) -> Progress
-    requires { ⌜ (count ≤ 192) × (n ≤ 4) ⌝ }
+    requires { ⌜ (count ≤ mostEvents) × (n ≤ states) ⌝ }
     ensures { λ r. ⌜ Takes n start (map (apply t) (boluses t (packed (now (reals .entry)) (now (words .entry)) count))) r ⌝ }
 {
     let mut p = start;
@@ -38,16 +41,16 @@ fn apply_boluses(
 
 // The events at the first m places of the list.
 fn apply_listed(
-    reals: &[[f64; 3]; EVENTS],
-    words: &[[usize; 4]; EVENTS],
+    reals: &Reals,
+    words: &Words,
     list: &[usize; EVENTS],
     m: usize,
     n: usize,
     t: f64,
     start: Progress,
 ) -> Progress
-    requires { ⌜ (m ≤ 192) × (n ≤ 4) × Places (now list) ⌝ }
-    ensures { λ r. ⌜ Takes n start (map (apply t) (listed (now (reals .entry)) (now (words .entry)) (now (list .entry)) m)) r ⌝ }
+    requires { ⌜ (m ≤ mostEvents) × (n ≤ states) × Places (now list) ⌝ }
+    ensures { λ r. ⌜ Takes n start (map (apply t) (eventsPlaced (now (reals .entry)) (now (words .entry)) (now (list .entry)) m)) r ⌝ }
 {
     let mut p = start;
     let mut k = 0usize;
@@ -64,14 +67,14 @@ fn apply_listed(
 
 // The resets at t by order.
 fn apply_resets(
-    reals: &[[f64; 3]; EVENTS],
-    words: &[[usize; 4]; EVENTS],
+    reals: &Reals,
+    words: &Words,
     count: usize,
     n: usize,
     t: f64,
     start: Progress,
 ) -> Progress
-    requires { ⌜ (count ≤ 192) × (n ≤ 4) ⌝ }
+    requires { ⌜ (count ≤ mostEvents) × (n ≤ states) ⌝ }
     ensures { λ r. ⌜ Takes n start (map (apply t) (resets t (packed (now (reals .entry)) (now (words .entry)) count))) r ⌝ }
 {
     let mut list = [0usize; EVENTS];
@@ -81,15 +84,16 @@ fn apply_resets(
 
 // The resets at t by order, then the boluses in list order.
 pub fn apply_events(
-    reals: &[[f64; 3]; EVENTS],
-    words: &[[usize; 4]; EVENTS],
+    reals: &Reals,
+    words: &Words,
     count: usize,
     n: usize,
     t: f64,
     start: Progress,
 ) -> Progress
-    requires { ⌜ (count ≤ 192) × (n ≤ 4) ⌝ }
-    ensures { λ r. ⌜ Takes n start (map (apply t) (resets t (packed (now (reals .entry)) (now (words .entry)) count) ++ boluses t (packed (now (reals .entry)) (now (words .entry)) count))) r ⌝ }
+    requires { ⌜ (count ≤ mostEvents) × (n ≤ states) ⌝ }
+    ensures { λ r. ⌜ Takes n start (map (apply t) (resets t (packed (now (reals .entry)) (now (words .entry)) count)
+        ++ boluses t (packed (now (reals .entry)) (now (words .entry)) count))) r ⌝ }
 {
     let p = apply_resets(reals, words, count, n, t, start);
     if p.stopped() {

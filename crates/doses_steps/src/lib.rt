@@ -1,6 +1,6 @@
 // Single steps at a boundary: the state is checked, or a reset or a bolus is applied and the state checked.
 use binary64::Test;
-use matrix::STATES;
+use limits::STATES;
 use protocol::Event;
 use refusal::Refusal;
 use refusal::Reply;
@@ -8,17 +8,18 @@ use rows::Progress;
 ghost use mathlib.Core.Path.{_≡_};
 ghost use Prim.Native.Nat.{_≤_};
 ghost use lib.ListN.{take};
+ghost use Rattle.limits.specs.Limits.{states};
 ghost use Rattle.binary64.specs.Doubles.{nonnegative};
 ghost use Rattle.binary64.specs.Lists.{all};
-ghost use Rattle.protocol.specs.Execute.{dosed as dosedOf, applied};
+ghost use Rattle.protocol.specs.Execute.{dosed as dosedOf, dosedAmounts};
 ghost use mathlib.Core.List.{[], _∷_, map};
 ghost use Rattle.protocol.specs.Events.{isBolus, boluses};
 ghost use Rattle.protocol.specs.Schedule.{check, apply};
-ghost use Rattle.doses_steps.specs.Takes.{tried, goes, Takes};
+ghost use Rattle.doses_steps.specs.Takes.{checkedWith, goesOnWith, Takes};
 
 // Whether each of the n amounts is finite and at least 0.
 pub fn check_state(n: usize, amounts: [f64; STATES]) -> bool
-    requires { ⌜ n ≤ 4 ⌝ }
+    requires { ⌜ n ≤ states ⌝ }
     ensures { λ r. ⌜ r ≡ all nonnegative (take n amounts) ⌝ }
 {
     let state = &amounts[..n];
@@ -30,31 +31,16 @@ fn dosed(event: Event, x: f64) -> f64
     ensures { λ r. ⌜ r ≡ dosedOf event x ⌝ }
 {
     match event {
-        Event::Bolus {
-            time: _,
-            target: _,
-            amount,
-        } => x + amount,
-        Event::Infusion {
-            time: _,
-            target: _,
-            amount: _,
-            duration: _,
-        } => x,
-        Event::Reset {
-            time: _,
-            target: _,
-            value,
-            order: _,
-            stops: _,
-        } => value,
+        Event::Bolus { amount, .. } => x + amount,
+        Event::Infusion { .. } => x,
+        Event::Reset { value, .. } => value,
     }
 }
 
 // The event applied to the n amounts.
 pub fn dose(event: Event, n: usize, amounts: [f64; STATES]) -> [f64; STATES]
-    requires { ⌜ n ≤ 4 ⌝ }
-    ensures { λ r. ⌜ take n r ≡ applied event (take n amounts) ⌝ }
+    requires { ⌜ n ≤ states ⌝ }
+    ensures { λ r. ⌜ take n r ≡ dosedAmounts event (take n amounts) ⌝ }
 {
     let i = events::target_of(event);
     if i < n {
@@ -67,8 +53,8 @@ pub fn dose(event: Event, n: usize, amounts: [f64; STATES]) -> [f64; STATES]
 
 // On with these amounts, or 31 at t.
 fn tested(n: usize, t: f64, start: Progress, amounts: [f64; STATES]) -> Progress
-    requires { ⌜ n ≤ 4 ⌝ }
-    ensures { λ r. ⌜ r ≡ tried n t start amounts ⌝ }
+    requires { ⌜ n ≤ states ⌝ }
+    ensures { λ r. ⌜ r ≡ checkedWith n t start amounts ⌝ }
 {
     if check_state(n, amounts) {
         return Progress {
@@ -92,7 +78,7 @@ fn tested(n: usize, t: f64, start: Progress, amounts: [f64; STATES]) -> Progress
 
 // The state at t is checked.
 pub fn check_at(n: usize, t: f64, start: Progress) -> Progress
-    requires { ⌜ n ≤ 4 ⌝ }
+    requires { ⌜ n ≤ states ⌝ }
     ensures { λ r. ⌜ Takes n start (check t ∷ []) r ⌝ }
 {
     let amounts = start.amounts;
@@ -101,7 +87,7 @@ pub fn check_at(n: usize, t: f64, start: Progress) -> Progress
 
 // A reset or a bolus at t, and the state checked.
 pub fn apply_one(event: Event, n: usize, t: f64, start: Progress) -> Progress
-    requires { ⌜ n ≤ 4 ⌝ }
+    requires { ⌜ n ≤ states ⌝ }
     ensures { λ r. ⌜ Takes n start (apply t event ∷ []) r ⌝ }
 {
     let amounts = start.amounts;
@@ -113,30 +99,15 @@ fn is_bolus(t: f64, event: Event) -> bool
     ensures { λ r. ⌜ r ≡ isBolus t event ⌝ }
 {
     match event {
-        Event::Bolus {
-            time,
-            target: _,
-            amount: _,
-        } => time == t,
-        Event::Infusion {
-            time: _,
-            target: _,
-            amount: _,
-            duration: _,
-        } => false,
-        Event::Reset {
-            time: _,
-            target: _,
-            value: _,
-            order: _,
-            stops: _,
-        } => false,
+        Event::Bolus { time, .. } => time == t,
+        Event::Infusion { .. } => false,
+        Event::Reset { .. } => false,
     }
 }
 
 // On from p.
 pub fn resumed(p: Progress) -> Progress
-    ensures { λ r. ⌜ r ≡ goes p (p .amounts) ⌝ }
+    ensures { λ r. ⌜ r ≡ goesOnWith p (p .amounts) ⌝ }
 {
     let amounts = p.amounts;
     Progress {
@@ -151,7 +122,7 @@ pub fn resumed(p: Progress) -> Progress
 
 // The event, if it is a bolus at t.
 pub fn apply_bolus(event: Event, n: usize, t: f64, start: Progress) -> Progress
-    requires { ⌜ n ≤ 4 ⌝ }
+    requires { ⌜ n ≤ states ⌝ }
     ensures { λ r. ⌜ Takes n start (map (apply t) (boluses t (event ∷ []))) r ⌝ }
 {
     if is_bolus(t, event) {

@@ -9,10 +9,12 @@ use native.Mathlib.Numerals.{add-one}
 use borrow.Author.Tests.{not-true, not-false}
 use lib.ListN.{length, take}
 use lib.Ieee.{Float, nan}
+use Rattle.limits.specs.Limits.{states}
 use Rattle.matrix.specs.Matrix.{Matrix, at, table, tabulate}
 use Rattle.matrix.specs.Arrays.{lead}
 use Rattle.refusal.specs.Result.{refused, done, unless}
-use Rattle.cycle.specs.Elimination.{System, leastPivot, pivotOf, pivotPasses, swapped, exchanged, reducedCell, reducedRight, reduced, eliminateColumn, eliminateTo, solveTo, solve}
+use Rattle.cycle.specs.Elimination.{System, leastPivot, pivotOf, pivotPasses, swapped, exchanged, reducedCell, reducedRight, reduced}
+use Rattle.cycle.specs.Elimination.{eliminateColumn, eliminateTo, solveTo, solve}
 use Rattle.elimination_system.specs.Systems.{held}
 use Rattle.matrix.proofs.Rows.{lead-at}
 use Rattle.elimination_steps.proofs.Exchanges.{swapped-lead, swapped-part}
@@ -23,8 +25,10 @@ module _ (n : ℕ) (least : Float) (s : System) where
   stays-refused k zero e = rw (zero-add k) e
   stays-refused k (suc d) e = rw (suc-add, stays-refused k d e)
 
-  module _ (k p : ℕ) (a : Matrix) (b : List Float) (below : k < n) (done-to : eliminateTo n least s k ≡ done (held n a b)) (pivot : (p ≡ pivotOf n (lead n a) k) × (p < n)) where
-    column : {x : Float} {t : Bool} → x ≡ at a p k → t ≡ pivotPasses least x → eliminateTo n least s (suc k) ≡ unless t 33 (reduced n k (exchanged k p (held n a b)))
+  module _ (k p : ℕ) (a : Matrix) (b : List Float) (below : k < n) (done-to : eliminateTo n least s k ≡ done (held n a b))
+      (pivot : (p ≡ pivotOf n (lead n a) k) × (p < n)) where
+    column : {x : Float} {t : Bool} → x ≡ at a p k → t ≡ pivotPasses least x
+        → eliminateTo n least s (suc k) ≡ unless t 33 (reduced n k (exchanged k p (held n a b)))
     unfolding eliminateTo eliminateColumn
     column e f = rw (done-to, ← pivot .0, lead-at n a p k (pivot .1) below, ← e, ← f)
 
@@ -34,8 +38,8 @@ module _ (n : ℕ) (least : Float) (s : System) where
         rw q at (stays-refused (suc k) (n - suc k) {c = 33} (column e f ∙ rw (not-true t g)))
 
     pub column-more :
-        (h : Matrix) (g : List Float) {x : Float} {t : Bool} {u : Matrix} {v : List Float} → n ≤ 4 → x ≡ at a p k → t ≡ pivotPasses least x → not t ≡ false
-        → (u ≡ swapped [] k p a) × (length a ≡ 4) → v ≡ swapped nan k p b
+        (h : Matrix) (g : List Float) {x : Float} {t : Bool} {u : Matrix} {v : List Float} → n ≤ states → x ≡ at a p k → t ≡ pivotPasses least x → not t ≡ false
+        → (u ≡ swapped [] k p a) × (length a ≡ states) → v ≡ swapped nan k p b
         → take n g ≡ tabulate n (reducedRight (held n u v) k) → lead n h ≡ table n (reducedCell (lead n u) k)
         → eliminateTo n least s (k + 1) ≡ done (held n h g)
     unfolding reduced exchanged

@@ -4,12 +4,13 @@ use elimination_steps::right;
 use elimination_steps::table;
 use elimination_steps::table::Cells;
 use elimination_system::entries::at;
-use matrix::STATES;
+use limits::STATES;
 use refusal::Refusal;
 use refusal::Reply;
 ghost use mathlib.Core.Path.{_≡_};
 ghost use Prim.Native.Nat.{_≤_};
 ghost use lib.ListN.{take};
+ghost use Rattle.limits.specs.Limits.{states};
 ghost use Rattle.matrix.specs.Matrix.{table as tableOf};
 ghost use Rattle.matrix.specs.Arrays.{lead};
 ghost use Rattle.refusal.specs.Numbers.{resultOf};
@@ -17,7 +18,7 @@ ghost use Rattle.cycle.specs.Elimination.{systemCell, solve as solveOf};
 
 // The system of a cycle: identity minus the columns, of which columns has one in each row.
 pub fn system(n: usize, columns: &[[f64; STATES]; STATES]) -> [[f64; STATES]; STATES]
-    requires { ⌜ n ≤ 4 ⌝ }
+    requires { ⌜ n ≤ states ⌝ }
     ensures { λ r. ⌜ lead n r ≡ tableOf n (systemCell (lead n (now (columns .entry)))) ⌝ }
 {
     table::table(Cells::System, columns, n)
@@ -31,7 +32,7 @@ pub struct Solution {
 
 // The amounts x of matrix·x = right, column by column and then from the last amount on.
 pub fn solve(n: usize, matrix: [[f64; STATES]; STATES], right: [f64; STATES]) -> Solution
-    requires { ⌜ n ≤ 4 ⌝ }
+    requires { ⌜ n ≤ states ⌝ }
     ensures { λ r. ⌜ resultOf (r .reply) (take n (r .amounts)) ≡ solveOf n (record { matrix = lead n matrix; right = take n right }) ⌝ }
 {
     let least = elimination_system::pivot::least(&matrix, n);

@@ -28,7 +28,8 @@ module _ {A B : Type 0} (h : A → B) (y : A) (z : B) (n : ℕ) where
   follows-all : (xs : List A) (ys : List B) → length ys ≡ n → ((i : ℕ) → i < n → getD ys i z ≡ h (getD xs i y)) → tabulate n (λ i. h (getD xs i y)) ≡ ys
   follows-all xs ys l f =
       let g : ℕ → B = λ i. h (getD xs i y) in
-      ext-getD z (tabulate n g) ys (tabulate-length g n ∙ sym l) (λ i b. tabulate-at g z n i (rw (tabulate-length g n) at b) ∙ sym (f i (rw (tabulate-length g n) at b)))
+      ext-getD z (tabulate n g) ys (tabulate-length g n ∙ sym l) (λ i b. tabulate-at g z n i (rw (tabulate-length g n) at b)
+      ∙ sym (f i (rw (tabulate-length g n) at b)))
 
 module _ (n k p : ℕ) (k-below : k < n) (p-below : p < n) where
   pub swapped-lead : (a : Matrix) → n ≤ length a → lead n (swapped [] k p a) ≡ swapped [] k p (lead n a)
@@ -40,7 +41,8 @@ module _ (n k p : ℕ) (k-below : k < n) (p-below : p < n) where
       let once : List (List Float) = set (lead n a) k (getD (lead n a) p []) in
       let same : length once ≡ n = length-set (lead n a) k (getD (lead n a) p []) ∙ long in
       follows-all rowOf [] [] n (swapped [] k p a) (swapped [] k p (lead n a)) (length-set once p (getD (lead n a) k []) ∙ same)
-      (set-follows rowOf [] [] n (set a k (getD a p [])) once p (getD a k []) (rw (length-set a k (getD a p [])) (omega arith)) (rw same p-below) (at-lead k k-below)
+      (set-follows rowOf [] [] n (set a k (getD a p [])) once p (getD a k []) (rw (length-set a k (getD a p [])) (omega arith))
+      (rw same p-below) (at-lead k k-below)
       (set-follows rowOf [] [] n a (lead n a) k (getD a p []) (omega arith) (rw long k-below) (at-lead p p-below) at-lead))
 
   pub swapped-part : (b : List Float) → take n (swapped nan k p b) ≡ swapped nan k p (take n b)

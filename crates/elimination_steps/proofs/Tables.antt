@@ -8,6 +8,7 @@ use lib.Dec.{T, ltb, ltb→lt}
 use lib.ListN.{replicate, take}
 use lib.Seq.{getD-take}
 use lib.Ieee.{Float, nan, binary64, sub, mul, div}
+use Rattle.limits.specs.Limits.{states}
 use Rattle.binary64.specs.Doubles.{plusZero}
 use Rattle.matrix.specs.Matrix.{Matrix, cell, at, table, tabulate}
 use Rattle.matrix.specs.Arrays.{lead, updated}
@@ -31,7 +32,8 @@ module _ (n : ℕ) (a : Matrix) where
   cell-lead (C.Reduced k) i j p q = rw (lead-at n a i j p q) (on (ltb k i) (ltb k j) (λ t. omega (arith, ltb→lt k i t)))
     where
       on : (b c : Bool) → (T b → k < n)
-          → cond (b && c) (sub binary64 (at a i j) (mul binary64 (factor (lead n a) k i) (at (lead n a) k j))) (at a i j) ≡ cond (b && c) (sub binary64 (at a i j) (mul binary64 (factor a k i) (at a k j))) (at a i j)
+          → cond (b && c) (sub binary64 (at a i j) (mul binary64 (factor (lead n a) k i) (at (lead n a) k j))) (at a i j)
+          ≡ cond (b && c) (sub binary64 (at a i j) (mul binary64 (factor a k i) (at a k j))) (at a i j)
       on true true f = rw (factor-lead k i (f tt) p, lead-at n a k j (f tt) q)
       on true false f = refl
       on false c f = refl
@@ -41,15 +43,18 @@ module _ (n : ℕ) (a : Matrix) where
   right-lead b k i p = rw (getD-take n b i nan p) (on (ltb k i) (λ t. omega (arith, ltb→lt k i t)))
     where
       on : (t : Bool) → (T t → k < n)
-          → cond t (sub binary64 (cell b i) (mul binary64 (factor (lead n a) k i) (cell (take n b) k))) (cell b i) ≡ cond t (sub binary64 (cell b i) (mul binary64 (factor a k i) (cell b k))) (cell b i)
+          → cond t (sub binary64 (cell b i) (mul binary64 (factor (lead n a) k i) (cell (take n b) k))) (cell b i)
+          ≡ cond t (sub binary64 (cell b i) (mul binary64 (factor a k i) (cell b k))) (cell b i)
       on true f = rw (factor-lead k i (f tt) p, getD-take n b k nan (f tt))
       on false f = refl
 
   -- the rows of an array are filled
   pub table-made :
-      (cells : Cells) {r : Matrix} → n ≤ 4 → r ≡ updated n (λ i x. tabulate 4 (cellOf cells a i)) (replicate 4 (replicate 4 plusZero)) → lead n r ≡ table n (cellOf cells (lead n a))
+      (cells : Cells) {r : Matrix} → n ≤ states → r ≡ updated n (λ i x. tabulate states (cellOf cells a i))
+      (replicate states (replicate states plusZero)) → lead n r ≡ table n (cellOf cells (lead n a))
   unfolding lead
   table-made cells fit e =
       table-cong n (λ i j p q. rw e
-      (ap (λ (r : List Float). cell r j) (updated-at (λ i x. tabulate 4 (cellOf cells a i)) [] n i (replicate 4 (replicate 4 plusZero)) p (omega arith))
+      (ap (λ (r : List Float). cell r j) (updated-at (λ i x. tabulate states (cellOf cells a i)) [] n i
+      (replicate states (replicate states plusZero)) p (omega arith))
       ∙ tabulate-at (cellOf cells a i) nan 4 j (omega arith) ∙ sym (cell-lead cells i j p q)))

@@ -1,9 +1,10 @@
 // Tables made cell by cell from an array.
 use elimination_system::entries::reduced_cell;
 use elimination_system::entries::system_cell;
-use matrix::STATES;
+use limits::STATES;
 ghost use mathlib.Core.Path.{_≡_};
 ghost use Prim.Native.Nat.{_≤_, _<_};
+ghost use Rattle.limits.specs.Limits.{states};
 ghost use Rattle.matrix.specs.Matrix.{tabulate, table as tableOf};
 ghost use Rattle.matrix.specs.Arrays.{lead};
 ghost use Rattle.elimination_steps.specs.Tables.{cellOf};
@@ -16,7 +17,7 @@ pub enum Cells {
 }
 
 fn cell(cells: Cells, a: &[[f64; STATES]; STATES], i: usize, j: usize) -> f64
-    requires { ⌜ (i < 4) × (j < 4) ⌝ }
+    requires { ⌜ (i < states) × (j < states) ⌝ }
     ensures { λ r. ⌜ r ≡ cellOf cells (now (a .entry)) i j ⌝ }
 {
     match cells {
@@ -27,8 +28,8 @@ fn cell(cells: Cells, a: &[[f64; STATES]; STATES], i: usize, j: usize) -> f64
 
 // Row i, over the whole width.
 fn row(cells: Cells, a: &[[f64; STATES]; STATES], i: usize) -> [f64; STATES]
-    requires { ⌜ i < 4 ⌝ }
-    ensures { λ r. ⌜ r ≡ tabulate 4 (cellOf cells (now (a .entry)) i) ⌝ }
+    requires { ⌜ i < states ⌝ }
+    ensures { λ r. ⌜ r ≡ tabulate states (cellOf cells (now (a .entry)) i) ⌝ }
 {
     let mut row = [0.0f64; STATES];
     for j in 0..STATES {
@@ -38,7 +39,7 @@ fn row(cells: Cells, a: &[[f64; STATES]; STATES], i: usize) -> [f64; STATES]
 }
 
 pub fn table(cells: Cells, a: &[[f64; STATES]; STATES], n: usize) -> [[f64; STATES]; STATES]
-    requires { ⌜ n ≤ 4 ⌝ }
+    requires { ⌜ n ≤ states ⌝ }
     ensures { λ r. ⌜ lead n r ≡ tableOf n (cellOf cells (lead n (now (a .entry)))) ⌝ }
 {
     let zeros = [0.0f64; STATES];

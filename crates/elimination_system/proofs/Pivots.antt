@@ -26,7 +26,8 @@ module _ (n : ℕ) (a : Matrix) (k : ℕ) where
       value : cond (totalLe (magnitude (at a p k)) (magnitude (at a (k + (d + 1)) k))) (k + (d + 1)) p ≡ pivotTo (lead n a) k (d + 1)
       value = rw (← lead-at n a p k (omega arith) (omega arith), ← lead-at n a (k + (d + 1)) k (omega arith) (omega arith), h, add-one)
 
-  pub pivot-all : (d e : ℕ) {p : ℕ} → k + e < n → n ≤ suc (k + e) → e ≤ d → (d ≤ e) × (p ≡ pivotTo (lead n a) k d) × (p ≤ k + d) → (p ≡ pivotOf n (lead n a) k) × (p < n)
+  pub pivot-all : (d e : ℕ) {p : ℕ} → k + e < n → n ≤ suc (k + e) → e ≤ d → (d ≤ e) × (p ≡ pivotTo (lead n a) k d) × (p ≤ k + d)
+      → (p ≡ pivotOf n (lead n a) k) × (p < n)
   unfolding pivotOf
   pivot-all d e b t l (u, h, m) =
       let f : d ≡ n - suc k = omega arith in

@@ -1,9 +1,10 @@
 // The pivot of a column: the least magnitude that it may have, its row, and its test.
 use crate::entries::at;
-use matrix::STATES;
+use limits::STATES;
 ghost use mathlib.Core.Path.{_≡_};
 ghost use mathlib.Core.Bool.{cond};
 ghost use Prim.Native.Nat.{_≤_, _<_};
+ghost use Rattle.limits.specs.Limits.{states};
 ghost use Rattle.binary64.specs.Doubles.{magnitude, totalLe};
 ghost use Rattle.matrix.specs.Matrix.{at as atOf};
 ghost use Rattle.matrix.specs.Arrays.{lead};
@@ -12,7 +13,7 @@ ghost use Rattle.cycle.specs.Elimination.{leastPivot, pivotOf, pivotPasses};
 
 // The sum of the magnitudes in row i.
 fn row_sum(a: &[[f64; STATES]; STATES], n: usize, i: usize) -> f64
-    requires { ⌜ (i < 4) × (n ≤ 4) ⌝ }
+    requires { ⌜ (i < states) × (n ≤ states) ⌝ }
     ensures { λ r. ⌜ r ≡ rowSum (now (a .entry)) n i ⌝ }
 {
     let mut sum = -0.0f64;
@@ -24,7 +25,7 @@ fn row_sum(a: &[[f64; STATES]; STATES], n: usize, i: usize) -> f64
 
 // The largest row sum.
 fn norm(a: &[[f64; STATES]; STATES], n: usize) -> f64
-    requires { ⌜ n ≤ 4 ⌝ }
+    requires { ⌜ n ≤ states ⌝ }
     ensures { λ r. ⌜ r ≡ normTo (now (a .entry)) n n ⌝ }
 {
     let mut largest = 0.0f64;
@@ -36,7 +37,7 @@ fn norm(a: &[[f64; STATES]; STATES], n: usize) -> f64
 
 // 64 times the distance from 1 to the next double, times the norm or 1.
 pub fn least(a: &[[f64; STATES]; STATES], n: usize) -> f64
-    requires { ⌜ n ≤ 4 ⌝ }
+    requires { ⌜ n ≤ states ⌝ }
     ensures { λ r. ⌜ r ≡ leastPivot n (lead n (now (a .entry))) ⌝ }
 {
     64.0 * 2.220446049250313e-16 * binary64_order::max(norm(a, n), 1.0)
@@ -44,7 +45,7 @@ pub fn least(a: &[[f64; STATES]; STATES], n: usize) -> f64
 
 // The row of the larger magnitude in column k, i where they are level.
 fn larger(a: &[[f64; STATES]; STATES], k: usize, p: usize, i: usize) -> usize
-    requires { ⌜ (k < 4) × (p < 4) × (i < 4) ⌝ }
+    requires { ⌜ (k < states) × (p < states) × (i < states) ⌝ }
     ensures { λ r. ⌜ r ≡ cond (totalLe (magnitude (atOf (now (a .entry)) p k)) (magnitude (atOf (now (a .entry)) i k))) i p ⌝ }
 {
     if binary64_order::total_le(binary64::abs(at(a, p, k)), binary64::abs(at(a, i, k))) {
@@ -56,7 +57,7 @@ fn larger(a: &[[f64; STATES]; STATES], k: usize, p: usize, i: usize) -> usize
 
 // The row of the largest magnitude in column k among the rows k .. n - 1, the last among equals.
 pub fn row(a: &[[f64; STATES]; STATES], n: usize, k: usize) -> usize
-    requires { ⌜ (k < n) × (n ≤ 4) ⌝ }
+    requires { ⌜ (k < n) × (n ≤ states) ⌝ }
     ensures { λ r. ⌜ (r ≡ pivotOf n (lead n (now (a .entry))) k) × (r < n) ⌝ }
 {
     let mut p = k;

@@ -8,7 +8,7 @@ use native.Mathlib.Numerals.{add-one}
 use native.Mathlib.Omega.{arith}
 use lib.ListN.{take, replicate}
 use Rattle.matrix.specs.Matrix.{tabulate, tabulateFrom}
-use Rattle.binary64.specs.Lists.{any, gather}
+use Rattle.binary64.specs.Lists.{any, flatMap}
 pub use Rattle.events_times.proofs.Either.{or-regroup, or-none, any-append}
 
 module _ {A : Type 0} (f : ℕ → A) (count : ℕ) where
@@ -32,10 +32,10 @@ module _ {A : Type 0} (f : ℕ → A) (count : ℕ) where
 -- whether one of what g gives passes
 module _ {A B : Type 0} (p : B → Bool) (g : A → List B) (f : ℕ → A) (count : ℕ) where
   abbrev pub anyLeft : ℕ → Bool
-  anyLeft k = any p (gather g (left f count k))
+  anyLeft k = any p (flatMap g (left f count k))
 
   any-split : (k : ℕ) → k < count → anyLeft k ≡ any p (g (f k)) || anyLeft (k + 1)
-  any-split k h = rw (left-more f count k h) (any-append p (g (f k)) (gather g (left f count (k + 1))))
+  any-split k h = rw (left-more f count k h) (any-append p (g (f k)) (flatMap g (left f count (k + 1))))
 
   pub any-more : (k : ℕ) {v r : Bool} → k < count → v ≡ any p (g (f k)) → v ≡ false → anyLeft k ≡ r → anyLeft (k + 1) ≡ r
   any-more k h e n q = ap (λ (b : Bool). b || anyLeft (k + 1)) (sym n ∙ e) ∙ sym (any-split k h) ∙ q

@@ -6,6 +6,7 @@ use lib.Dec.{eqb}
 use mathlib.Core.Path.{_≡_}
 use lib.ListN.{length, getD}
 use lib.Ieee.{Float, nan, eq}
+use Rattle.limits.specs.Limits.{mostEvents}
 use Rattle.binary64.specs.Doubles.{plusZero}
 use Rattle.matrix.specs.Matrix.{tabulate}
 use Rattle.matrix.specs.Arrays.{updated}
@@ -17,15 +18,15 @@ use Rattle.protocol.specs.declared.Event.the-variants.{Bolus, Infusion, Reset}
 abbrev pub real : List (List Float) → ℕ → ℕ → Float
 real rs i k = getD (getD rs i []) k nan
 
-abbrev pub word : List (List ℕ) → ℕ → ℕ → ℕ
-word ws i k = getD (getD ws i []) k 0
+abbrev pub packedWord : List (List ℕ) → ℕ → ℕ → ℕ
+packedWord ws i k = getD (getD ws i []) k 0
 
 -- the event at place i: kind 0 is a bolus, 1 an infusion, any other a reset
 unfoldable pub eventAt : List (List Float) → List (List ℕ) → ℕ → Event
 eventAt rs ws i =
-    cond (eqb (word ws i 0) 0) (Bolus (real rs i 0) (word ws i 1) (real rs i 1))
-    (cond (eqb (word ws i 0) 1) (Infusion (real rs i 0) (word ws i 1) (real rs i 1) (real rs i 2))
-    (Reset (real rs i 0) (word ws i 1) (real rs i 1) (word ws i 2 % 65536) (eqb (word ws i 3) 1)))
+    cond (eqb (packedWord ws i 0) 0) (Bolus (real rs i 0) (packedWord ws i 1) (real rs i 1))
+    (cond (eqb (packedWord ws i 0) 1) (Infusion (real rs i 0) (packedWord ws i 1) (real rs i 1) (real rs i 2))
+    (Reset (real rs i 0) (packedWord ws i 1) (real rs i 1) (packedWord ws i 2 % 65536) (eqb (packedWord ws i 3) 1)))
 
 -- the rows of an event
 unfoldable pub realsOf : Event → List Float
@@ -36,10 +37,10 @@ realsOf (Reset t i v o c) = t ∷ v ∷ plusZero ∷ []
 abbrev pub bit : Bool → ℕ
 bit b = cond b 1 0
 
-unfoldable pub wordsOf : Event → List ℕ
-wordsOf (Bolus t i a) = 0 ∷ i ∷ 0 ∷ 0 ∷ []
-wordsOf (Infusion t i a d) = 1 ∷ i ∷ 0 ∷ 0 ∷ []
-wordsOf (Reset t i v o c) = 2 ∷ i ∷ o ∷ bit c ∷ []
+unfoldable pub packedWords : Event → List ℕ
+packedWords (Bolus t i a) = 0 ∷ i ∷ 0 ∷ 0 ∷ []
+packedWords (Infusion t i a d) = 1 ∷ i ∷ 0 ∷ 0 ∷ []
+packedWords (Reset t i v o c) = 2 ∷ i ∷ o ∷ bit c ∷ []
 
 -- the first n events
 unfoldable pub packed : List (List Float) → List (List ℕ) → ℕ → List Event
@@ -47,8 +48,8 @@ packed rs ws n = tabulate n (eventAt rs ws)
 
 -- arrays of 192 places, the first n of which hold es
 pub record Packs (rs : List (List Float)) (ws : List (List ℕ)) (n : ℕ) (es : List Event) : Type 0 where
-  pub reals : length rs ≡ 192
-  pub words : length ws ≡ 192
+  pub reals : length rs ≡ mostEvents
+  pub words : length ws ≡ mostEvents
   pub held : packed rs ws n ≡ es
 
 -- an event or its end is at t

@@ -1,16 +1,21 @@
 // Events in arrays of numbers. An array of events cannot be lent, and passing one by value copies it whole: the list that a run is given is packed once.
+use limits::EVENTS;
 use protocol::Event;
 ghost use mathlib.Core.Path.{_≡_};
 ghost use Prim.Native.Nat.{_<_};
+ghost use Rattle.limits.specs.Limits.{mostEvents};
 ghost use Rattle.protocol.specs.Events.{time as timeOf, target as targetOf, noEvent};
 ghost use Rattle.events.specs.Packed.{eventAt};
 
-// The most events of a run's list.
-pub const EVENTS: usize = 192;
+// The doubles of a packed list, three to an event: time, amount or value, duration.
+pub type Reals = [[f64; 3]; EVENTS];
+
+// Its numbers, four to an event: kind, target, order, whether it stops.
+pub type Words = [[usize; 4]; EVENTS];
 
 // The event at place i.
-pub fn event_at(reals: &[[f64; 3]; EVENTS], words: &[[usize; 4]; EVENTS], i: usize) -> Event
-    requires { ⌜ i < 192 ⌝ }
+pub fn event_at(reals: &Reals, words: &Words, i: usize) -> Event
+    requires { ⌜ i < mostEvents ⌝ }
     ensures { λ r. ⌜ r ≡ eventAt (now (reals .entry)) (now (words .entry)) i ⌝ }
 {
     let kind = words[i][0];
@@ -46,24 +51,9 @@ pub fn time_of(event: Event) -> f64
     ensures { λ r. ⌜ r ≡ timeOf event ⌝ }
 {
     match event {
-        Event::Bolus {
-            time,
-            target: _,
-            amount: _,
-        } => time,
-        Event::Infusion {
-            time,
-            target: _,
-            amount: _,
-            duration: _,
-        } => time,
-        Event::Reset {
-            time,
-            target: _,
-            value: _,
-            order: _,
-            stops: _,
-        } => time,
+        Event::Bolus { time, .. } => time,
+        Event::Infusion { time, .. } => time,
+        Event::Reset { time, .. } => time,
     }
 }
 
@@ -71,24 +61,9 @@ pub fn target_of(event: Event) -> usize
     ensures { λ r. ⌜ r ≡ targetOf event ⌝ }
 {
     match event {
-        Event::Bolus {
-            time: _,
-            target,
-            amount: _,
-        } => target,
-        Event::Infusion {
-            time: _,
-            target,
-            amount: _,
-            duration: _,
-        } => target,
-        Event::Reset {
-            time: _,
-            target,
-            value: _,
-            order: _,
-            stops: _,
-        } => target,
+        Event::Bolus { target, .. } => target,
+        Event::Infusion { target, .. } => target,
+        Event::Reset { target, .. } => target,
     }
 }
 

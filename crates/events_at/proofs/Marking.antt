@@ -50,7 +50,8 @@ module _ {A : Type 0} where
   unfolding updated
   updated-same g e m xs = from-same g e 0 m xs
 
-from-zip : {A B : Type 0} (h : A → B → B) (f : ℕ → A) (i m : ℕ) (xs : List B) → take m (updatedFrom i m (λ k x. h (f k) x) xs) ≡ zipWith h (tabulateFrom i m f) (take m xs)
+from-zip : {A B : Type 0} (h : A → B → B) (f : ℕ → A) (i m : ℕ) (xs : List B)
+    → take m (updatedFrom i m (λ k x. h (f k) x) xs) ≡ zipWith h (tabulateFrom i m f) (take m xs)
 unfolding updatedFrom tabulateFrom zipWith
 from-zip h f i zero xs = refl
 from-zip h f i (suc m) [] = refl
@@ -80,7 +81,8 @@ marks-not t (Bolus s i a) e h = refl
 marks-not t (Infusion s i a d) e h = refl
 marks-not t (Reset s i v o c) e h = and-not (eq s t) c (running t i e) h
 
-pub marked-more : (t : Float) (i : ℕ) (rs : List (List Float)) (ws : List (List ℕ)) (k : ℕ) (ms : List Bool) {xs : List Bool} {v : Bool} → v ≡ running t i (eventAt rs ws k) → xs ≡ markedBy t i rs ws k ms → set xs k (getD xs k false || v) ≡ markedBy t i rs ws (k + 1) ms
+pub marked-more : (t : Float) (i : ℕ) (rs : List (List Float)) (ws : List (List ℕ)) (k : ℕ) (ms : List Bool) {xs : List Bool} {v : Bool}
+    → v ≡ running t i (eventAt rs ws k) → xs ≡ markedBy t i rs ws k ms → set xs k (getD xs k false || v) ≡ markedBy t i rs ws (k + 1) ms
 unfolding markedBy
 marked-more t i rs ws k ms {xs} p q = updated-more (λ k m. m || running t i (eventAt rs ws k)) false k ms q (ap (λ (b : Bool). getD xs k false || b) p)
 
@@ -100,7 +102,8 @@ module _ (t : Float) (rs : List (List Float)) (ws : List (List ℕ)) (count : �
   hit-more : (i k : ℕ) → hit (i + 1) k ≡ hit i k || marks t (eventAt rs ws i) (eventAt rs ws k)
   hit-more i k =
       let p : Event → Bool = λ r. marks t r (eventAt rs ws k) in
-      ap (any p) (tabulate-snoc (eventAt rs ws) i) ∙ any-append p (tabulate i (eventAt rs ws)) (eventAt rs ws i ∷ []) ∙ ap (λ (b : Bool). hit i k || b) (or-none (marks t (eventAt rs ws i) (eventAt rs ws k)))
+      ap (any p) (tabulate-snoc (eventAt rs ws) i) ∙ any-append p (tabulate i (eventAt rs ws)) (eventAt rs ws i ∷ [])
+      ∙ ap (λ (b : Bool). hit i k || b) (or-none (marks t (eventAt rs ws i) (eventAt rs ws k)))
 
   pub behind-start : ms ≡ behind 0
   unfolding behind tabulate tabulateFrom
@@ -110,20 +113,26 @@ module _ (t : Float) (rs : List (List Float)) (ws : List (List ℕ)) (count : �
   unfolding behind
   behind-skip i h e =
       e ∙ updated-cong (λ k m. m || hit i k) (λ k m. m || hit (i + 1) k)
-      (λ k m. ap (λ (b : Bool). m || b) (sym (hit-more i k ∙ ap (λ (b : Bool). hit i k || b) (marks-not t (eventAt rs ws i) (eventAt rs ws k) h) ∙ or-none (hit i k)))) count ms
+      (λ k m. ap (λ (b : Bool). m || b) (sym (hit-more i k
+      ∙ ap (λ (b : Bool). hit i k || b) (marks-not t (eventAt rs ws i) (eventAt rs ws k) h) ∙ or-none (hit i k)))) count ms
 
-  pub behind-more : (i j : ℕ) {xs ys : List Bool} → stopsAt t (eventAt rs ws i) ≡ true → j ≡ target (eventAt rs ws i) → xs ≡ behind i → ys ≡ markedBy t j rs ws count xs → ys ≡ behind (i + 1)
+  pub behind-more : (i j : ℕ) {xs ys : List Bool} → stopsAt t (eventAt rs ws i) ≡ true → j ≡ target (eventAt rs ws i) → xs ≡ behind i
+      → ys ≡ markedBy t j rs ws count xs → ys ≡ behind (i + 1)
   unfolding behind markedBy
   behind-more i j h g e q =
       q ∙ ap₂ (λ (n : ℕ) (zs : List Bool). updated count (λ k m. m || running t n (eventAt rs ws k)) zs) g e
       ∙ updated-twice (λ k m. m || running t (target (eventAt rs ws i)) (eventAt rs ws k)) (λ k m. m || hit i k) count ms
       ∙ updated-cong (λ k m. (m || hit i k) || running t (target (eventAt rs ws i)) (eventAt rs ws k)) (λ k m. m || hit (i + 1) k)
-      (λ k m. or-regroup m (hit i k) (running t (target (eventAt rs ws i)) (eventAt rs ws k)) ∙ ap (λ (b : Bool). m || b) (sym (hit-more i k ∙ ap (λ (b : Bool). hit i k || b) (marks-stop t (eventAt rs ws i) (eventAt rs ws k) h)))) count ms
+      (λ k m. or-regroup m (hit i k) (running t (target (eventAt rs ws i)) (eventAt rs ws k))
+      ∙ ap (λ (b : Bool). m || b) (sym (hit-more i k ∙ ap (λ (b : Bool). hit i k || b)
+      (marks-stop t (eventAt rs ws i) (eventAt rs ws k) h)))) count ms
 
-  pub behind-all : (i : ℕ) {xs : List Bool} → i ≤ count → count ≤ i → xs ≡ behind i → (length xs ≡ length ms) × (take count xs ≡ marked t (packed rs ws count) (take count ms))
+  pub behind-all : (i : ℕ) {xs : List Bool} → i ≤ count → count ≤ i → xs ≡ behind i
+      → (length xs ≡ length ms) × (take count xs ≡ marked t (packed rs ws count) (take count ms))
   unfolding behind marked packed updated tabulate
   behind-all i p q e =
       let r = rw (le-antisymm p q) at e in (
         ap length e ∙ updated-length (λ k m. m || hit i k) count ms,
-        ap (take count) r ∙ from-zip (λ (e : Event) (m : Bool). m || any (λ (r : Event). marks t r e) (tabulateFrom 0 count (eventAt rs ws))) (eventAt rs ws) 0 count ms,
+        ap (take count) r ∙ from-zip (λ (e : Event) (m : Bool). m
+            || any (λ (r : Event). marks t r e) (tabulateFrom 0 count (eventAt rs ws))) (eventAt rs ws) 0 count ms,
       )

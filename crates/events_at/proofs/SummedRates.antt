@@ -9,7 +9,7 @@ use lib.ListN.{length, getD, set, take, drop, length-take}
 use lib.Seq.{drop-cons, getD-take, take-set-lt, set-out}
 use lib.Ieee.{Float, nan, binary64, add}
 use Rattle.protocol.specs.Events.{target}
-use Rattle.protocol.specs.Schedule.{withRate, withRates, flows, rateOf, addTo}
+use Rattle.protocol.specs.Schedule.{withRate, withRates, flows, infusionRate, addTo}
 use Rattle.protocol.specs.declared.Event.{Event}
 use Rattle.events.proofs.Scans.{left, left-more, left-none}
 
@@ -30,15 +30,18 @@ module _ (n : ℕ) (t : Float) (f : ℕ → Event) (count : ℕ) (ms : List Bool
 
 module _ (n : ℕ) (t : Float) (e : Event) (m : Bool) {f : Bool} (p : f ≡ flows t e m) (r : List Float) where
   pub rate-skip : f ≡ false → take n r ≡ withRate t e m (take n r)
-  rate-skip q = sym (ap (λ (b : Bool). cond b (addTo (take n r) (target e) (rateOf e)) (take n r)) (sym p ∙ q))
+  rate-skip q = sym (ap (λ (b : Bool). cond b (addTo (take n r) (target e) (infusionRate e)) (take n r)) (sym p ∙ q))
 
-  rate-add : f ≡ true → withRate t e m (take n r) ≡ addTo (take n r) (target e) (rateOf e)
-  rate-add q = ap (λ (b : Bool). cond b (addTo (take n r) (target e) (rateOf e)) (take n r)) (sym p ∙ q)
+  rate-add : f ≡ true → withRate t e m (take n r) ≡ addTo (take n r) (target e) (infusionRate e)
+  rate-add q = ap (λ (b : Bool). cond b (addTo (take n r) (target e) (infusionRate e)) (take n r)) (sym p ∙ q)
 
   pub rate-beyond : (i : ℕ) → f ≡ true → i ≡ target e → n ≤ i → take n r ≡ withRate t e m (take n r)
-  rate-beyond i q k h = sym (rate-add q ∙ set-out (take n r) (target e) (add binary64 (getD (take n r) (target e) nan) (rateOf e)) (omega (arith, length-take n r)))
+  rate-beyond i q k h =
+      sym (rate-add q ∙ set-out (take n r) (target e) (add binary64 (getD (take n r) (target e) nan) (infusionRate e))
+      (omega (arith, length-take n r)))
 
-  pub rate-put : (i : ℕ) {x : Float} → f ≡ true → i ≡ target e → x ≡ rateOf e → i < n → take n (set r i (add binary64 (getD r i nan) x)) ≡ withRate t e m (take n r)
+  pub rate-put : (i : ℕ) {x : Float} → f ≡ true → i ≡ target e → x ≡ infusionRate e → i < n
+      → take n (set r i (add binary64 (getD r i nan) x)) ≡ withRate t e m (take n r)
   rate-put i {x} q k v h =
       take-set-lt n r i (add binary64 (getD r i nan) x) h ∙ ap (λ (y : Float). set (take n r) i (add binary64 y x)) (sym (getD-take n r i nan h))
       ∙ ap₂ (λ (j : ℕ) (y : Float). addTo (take n r) j y) k v ∙ sym (rate-add q)

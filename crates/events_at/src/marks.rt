@@ -1,9 +1,12 @@
 // The marks of the infusions that resets have stopped.
-use events::EVENTS;
+use events::Reals;
+use events::Words;
+use limits::EVENTS;
 use protocol::Event;
 ghost use mathlib.Core.Path.{_≡_};
 ghost use Prim.Native.Nat.{_≤_};
 ghost use lib.ListN.{length, take};
+ghost use Rattle.limits.specs.Limits.{mostEvents};
 ghost use Rattle.protocol.specs.Events.{running};
 ghost use Rattle.protocol.specs.Schedule.{marked};
 ghost use Rattle.events.specs.Packed.{packed, stopsAt, markedBy};
@@ -13,24 +16,9 @@ fn stops_at(t: f64, event: Event) -> bool
     ensures { λ r. ⌜ r ≡ stopsAt t event ⌝ }
 {
     match event {
-        Event::Bolus {
-            time: _,
-            target: _,
-            amount: _,
-        } => false,
-        Event::Infusion {
-            time: _,
-            target: _,
-            amount: _,
-            duration: _,
-        } => false,
-        Event::Reset {
-            time,
-            target: _,
-            value: _,
-            order: _,
-            stops,
-        } => (time == t) & stops,
+        Event::Bolus { .. } => false,
+        Event::Infusion { .. } => false,
+        Event::Reset { time, stops, .. } => (time == t) & stops,
     }
 }
 
@@ -39,37 +27,27 @@ fn runs(t: f64, target: usize, event: Event) -> bool
     ensures { λ r. ⌜ r ≡ running t target event ⌝ }
 {
     match event {
-        Event::Bolus {
-            time: _,
-            target: _,
-            amount: _,
-        } => false,
+        Event::Bolus { .. } => false,
         Event::Infusion {
             time,
             target: i,
-            amount: _,
             duration,
+            ..
         } => (target == i) & ((time < t) & (t < time + duration)),
-        Event::Reset {
-            time: _,
-            target: _,
-            value: _,
-            order: _,
-            stops: _,
-        } => false,
+        Event::Reset { .. } => false,
     }
 }
 
 // The infusions that run on the target at t are marked.
 fn mark_by(
-    reals: &[[f64; 3]; EVENTS],
-    words: &[[usize; 4]; EVENTS],
+    reals: &Reals,
+    words: &Words,
     count: usize,
     t: f64,
     target: usize,
     marks: &mut [bool; EVENTS],
 )
-    requires { ⌜ count ≤ 192 ⌝ }
+    requires { ⌜ count ≤ mostEvents ⌝ }
     ensures { λ _. ⌜ now (marks .exit) ≡ markedBy t target (now (reals .entry)) (now (words .entry)) count (now (marks .entry)) ⌝ }
 {
     for k in 0..count {
@@ -78,15 +56,11 @@ fn mark_by(
 }
 
 // Each stopping reset at t marks the infusions that run on its target.
-pub fn mark(
-    reals: &[[f64; 3]; EVENTS],
-    words: &[[usize; 4]; EVENTS],
-    count: usize,
-    t: f64,
-    marks: &mut [bool; EVENTS],
-)
-    requires { ⌜ count ≤ 192 ⌝ }
-    ensures { λ _. ⌜ (length (now (marks .exit)) ≡ length (now (marks .entry))) × (take count (now (marks .exit)) ≡ marked t (packed (now (reals .entry)) (now (words .entry)) count) (take count (now (marks .entry)))) ⌝ }
+pub fn mark(reals: &Reals, words: &Words, count: usize, t: f64, marks: &mut [bool; EVENTS])
+    requires { ⌜ count ≤ mostEvents ⌝ }
+    ensures { λ _. ⌜ (length (now (marks .exit)) ≡ length (now (marks .entry)))
+        × (take count (now (marks .exit)) ≡ marked t (packed (now (reals .entry)) (now (words .entry)) count)
+        (take count (now (marks .entry)))) ⌝ }
 {
     for i in 0..count {
         let event = events::event_at(reals, words, i);

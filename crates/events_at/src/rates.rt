@@ -1,11 +1,14 @@
 // The rates of the infusions that flow at an instant.
-use events::EVENTS;
-use matrix::STATES;
+use events::Reals;
+use events::Words;
+use limits::EVENTS;
+use limits::STATES;
 use protocol::Event;
 ghost use mathlib.Core.Path.{_≡_};
 ghost use Prim.Native.Nat.{_≤_};
 ghost use lib.ListN.{length, take};
-ghost use Rattle.protocol.specs.Schedule.{flows as flowsOf, rateOf, summed};
+ghost use Rattle.limits.specs.Limits.{states, mostEvents};
+ghost use Rattle.protocol.specs.Schedule.{flows as flowsOf, infusionRate, summed};
 ghost use Rattle.events.specs.Packed.{packed};
 
 // An unmarked infusion with time ≤ t < end.
@@ -13,62 +16,36 @@ fn flows(t: f64, event: Event, marked: bool) -> bool
     ensures { λ r. ⌜ r ≡ flowsOf t event marked ⌝ }
 {
     match event {
-        Event::Bolus {
-            time: _,
-            target: _,
-            amount: _,
-        } => false,
-        Event::Infusion {
-            time,
-            target: _,
-            amount: _,
-            duration,
-        } => !marked & ((time <= t) & (t < time + duration)),
-        Event::Reset {
-            time: _,
-            target: _,
-            value: _,
-            order: _,
-            stops: _,
-        } => false,
+        Event::Bolus { .. } => false,
+        Event::Infusion { time, duration, .. } => !marked & ((time <= t) & (t < time + duration)),
+        Event::Reset { .. } => false,
     }
 }
 
 fn rate_of(event: Event) -> f64
-    ensures { λ r. ⌜ r ≡ rateOf event ⌝ }
+    ensures { λ r. ⌜ r ≡ infusionRate event ⌝ }
 {
     match event {
-        Event::Bolus {
-            time: _,
-            target: _,
-            amount: _,
-        } => 0.0,
+        Event::Bolus { .. } => 0.0,
         Event::Infusion {
-            time: _,
-            target: _,
             amount,
             duration,
+            ..
         } => amount / duration,
-        Event::Reset {
-            time: _,
-            target: _,
-            value: _,
-            order: _,
-            stops: _,
-        } => 0.0,
+        Event::Reset { .. } => 0.0,
     }
 }
 
 // The rates of n states from t on, in list order.
 pub fn summed_rates(
-    reals: &[[f64; 3]; EVENTS],
-    words: &[[usize; 4]; EVENTS],
+    reals: &Reals,
+    words: &Words,
     count: usize,
     n: usize,
     t: f64,
     marks: &[bool; EVENTS],
 ) -> [f64; STATES]
-    requires { ⌜ (count ≤ 192) × (n ≤ 4) × (length (now marks) ≡ 192) ⌝ }
+    requires { ⌜ (count ≤ mostEvents) × (n ≤ states) × (length (now marks) ≡ mostEvents) ⌝ }
     ensures { λ r. ⌜ take n r ≡ summed n t (packed (now (reals .entry)) (now (words .entry)) count) (take count (now (marks .entry))) ⌝ }
 {
     let mut rates = [0.0f64; STATES];

@@ -7,7 +7,7 @@ use native.Mathlib.Omega.{arith}
 use lib.ListN.{length, set, take, length-set}
 use lib.Seq.{take-suc-set}
 use lib.Ieee.{Float}
-use Rattle.binary64.specs.Lists.{gather}
+use Rattle.binary64.specs.Lists.{flatMap}
 use Rattle.protocol.specs.Events.{instants, boundaryTimes}
 use Rattle.events.specs.Packed.{eventAt, packed}
 use Rattle.events.proofs.Scans.{left, left-start, left-more, left-none}
@@ -28,12 +28,13 @@ module _ {A : Type 0} where
 -- what is laid, with the times of the events that are left, are all the times
 module _ (rs : List (List Float)) (ws : List (List ℕ)) (count : ℕ) where
   abbrev pub laid : List Float → ℕ → List Float
-  laid xs k = xs ++ gather instants (left (eventAt rs ws) count k)
+  laid xs k = xs ++ flatMap instants (left (eventAt rs ws) count k)
 
   pub laid-more : (k : ℕ) (xs : List Float) {ys zs : List Float} → k < count → ys ≡ xs ++ instants (eventAt rs ws k) → laid xs k ≡ zs → laid ys (k + 1) ≡ zs
   laid-more k xs h e q = rw (e, append-assoc) (rw (left-more (eventAt rs ws) count k h) at q)
 
-  pub laid-all : (start end : Float) (k : ℕ) (bs : List Float) {xs : List Float} → count ≤ k → 2 ≤ length bs → laid xs k ≡ laid (take 2 (set (set bs 0 start) 1 end)) 0 → xs ≡ boundaryTimes start end (packed rs ws count)
+  pub laid-all : (start end : Float) (k : ℕ) (bs : List Float) {xs : List Float} → count ≤ k → 2 ≤ length bs
+      → laid xs k ≡ laid (take 2 (set (set bs 0 start) 1 end)) 0 → xs ≡ boundaryTimes start end (packed rs ws count)
   unfolding packed
   laid-all start end k bs {xs} h l q = sym (append-nil xs) ∙ rw (left-none (eventAt rs ws) count k h) at q ∙ rw (lay-two bs 0 start end l, left-start)
     where

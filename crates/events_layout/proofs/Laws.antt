@@ -25,7 +25,9 @@ front-events w ws h =
     (λ (k : ℕ) (l : k < eventCount ws). sym (tabulate-at (eventOrNone ws) noEvent w k (omega arith) ∙ rw (lt-ltb _ _ l))))
 
 -- the order of a reset that fits is its word
-pub reset-order : (ws : List ℕ) (i : ℕ) → wordAt ws i 0 ≡ 2 → T (eventFits ws i) → eventOf ws i ≡ Reset (ofBits binary64 (wordAt ws i 1)) (wordAt ws i 2) (ofBits binary64 (wordAt ws i 3)) (wordAt ws i 4) (eqb (wordAt ws i 5) 1)
+pub reset-order : (ws : List ℕ) (i : ℕ) → wordAt ws i 0 ≡ 2 → T (eventFits ws i)
+    → eventOf ws i ≡ Reset (ofBits binary64 (wordAt ws i 1)) (wordAt ws i 2) (ofBits binary64 (wordAt ws i 3)) (wordAt ws i 4)
+    (eqb (wordAt ws i 5) 1)
 unfolding eventFits eventOf
 reset-order ws i k h =
     let fits : wordAt ws i 4 ≤ 65535 = leb→le _ _ (both (leb (wordAt ws i 4) 65535) (leb (wordAt ws i 5) 1) (rw k at h) .0) in

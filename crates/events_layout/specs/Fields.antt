@@ -8,8 +8,8 @@ use Rattle.protocol.specs.declared.Event.{Event}
 use Rattle.protocol.specs.declared.Event.the-variants.{Bolus, Infusion, Reset}
 
 -- a kind at most 2; a reset's order at most 65,535 and its `stops` at most 1
-abbrev pub listedOf : ℕ → ℕ → ℕ → Bool
-listedOf kind order stops = leb kind 1 || (eqb kind 2 && (leb order 65535 && leb stops 1))
+abbrev pub wordsListed : ℕ → ℕ → ℕ → Bool
+wordsListed kind order stops = leb kind 1 || (eqb kind 2 && (leb order 65535 && leb stops 1))
 
 -- the event of six words: kind, time, target, amount or value, duration or order, stops; where it fits, the order is the word itself
 unfoldable pub eventFrom : ℕ → ℕ → ℕ → ℕ → ℕ → ℕ → Event

@@ -4,22 +4,23 @@ use mathlib.Core.List.{List}
 use Prim.Native.Nat.{ℕ, _+_, _*_, _/_, _%_}
 use lib.Dec.{eqb, ltb}
 use lib.ListN.{length, getD}
+use Rattle.limits.specs.Limits.{eventSize}
 use Rattle.matrix.specs.Matrix.{tabulate, allTo}
 use Rattle.protocol.specs.Events.{noEvent}
 use Rattle.protocol.specs.declared.Event.{Event}
-use Rattle.events_layout.specs.Fields.{listedOf, eventFrom}
+use Rattle.events_layout.specs.Fields.{wordsListed, eventFrom}
 
 -- word k of event i
 abbrev pub wordAt : List ℕ → ℕ → ℕ → ℕ
-wordAt ws i k = getD ws (6 * i + k) 0
+wordAt ws i k = getD ws (eventSize * i + k) 0
 
 -- the whole events in the words
 abbrev pub eventCount : List ℕ → ℕ
-eventCount ws = length ws / 6
+eventCount ws = length ws / eventSize
 
 -- the words of event i are among those listed
 unfoldable pub eventFits : List ℕ → ℕ → Bool
-eventFits ws i = listedOf (wordAt ws i 0) (wordAt ws i 4) (wordAt ws i 5)
+eventFits ws i = wordsListed (wordAt ws i 0) (wordAt ws i 4) (wordAt ws i 5)
 
 -- whole events only, and each fits
 unfoldable pub eventsFit : List ℕ → Bool

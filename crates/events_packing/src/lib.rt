@@ -1,35 +1,28 @@
 // Events packed into arrays of numbers.
-use events::EVENTS;
+use events::Reals;
+use events::Words;
+use limits::EVENTS;
 use protocol::Event;
 ghost use mathlib.Core.Path.{_≡_};
 ghost use mathlib.Core.List.{[], _∷_, _++_};
 ghost use Prim.Native.Nat.{_≤_, _<_, _+_};
 ghost use lib.ListN.{length, take};
+ghost use Rattle.limits.specs.Limits.{mostEvents};
 ghost use Rattle.protocol.specs.Events.{order};
-ghost use Rattle.events.specs.Packed.{packed, Packs, realsOf, wordsOf, bit};
+ghost use Rattle.events.specs.Packed.{packed, Packs, realsOf, packedWords, bit};
 
 fn reals_of(event: Event) -> [f64; 3]
     ensures { λ r. ⌜ r ≡ realsOf event ⌝ }
 {
     match event {
-        Event::Bolus {
-            time,
-            target: _,
-            amount,
-        } => [time, amount, 0.0],
+        Event::Bolus { time, amount, .. } => [time, amount, 0.0],
         Event::Infusion {
             time,
-            target: _,
             amount,
             duration,
+            ..
         } => [time, amount, duration],
-        Event::Reset {
-            time,
-            target: _,
-            value,
-            order: _,
-            stops: _,
-        } => [time, value, 0.0],
+        Event::Reset { time, value, .. } => [time, value, 0.0],
     }
 }
 
@@ -41,38 +34,23 @@ fn flag(b: bool) -> usize
 
 // An order is below 65536.
 fn words_of(event: Event) -> [usize; 4]
-    ensures { λ r. ⌜ (r ≡ wordsOf event) × (order event < 65536) ⌝ }
+    ensures { λ r. ⌜ (r ≡ packedWords event) × (order event < 65536) ⌝ }
 {
     match event {
-        Event::Bolus {
-            time: _,
-            target,
-            amount: _,
-        } => [0, target, 0, 0],
-        Event::Infusion {
-            time: _,
-            target,
-            amount: _,
-            duration: _,
-        } => [1, target, 0, 0],
+        Event::Bolus { target, .. } => [0, target, 0, 0],
+        Event::Infusion { target, .. } => [1, target, 0, 0],
         Event::Reset {
-            time: _,
             target,
-            value: _,
             order,
             stops,
+            ..
         } => [2, target, order as usize, flag(stops)],
     }
 }
 
 // The event at place `at`, behind those ahead of it.
-pub fn put(
-    event: Event,
-    reals: &mut [[f64; 3]; EVENTS],
-    words: &mut [[usize; 4]; EVENTS],
-    at: usize,
-)
-    requires { ⌜ (at < 192) × (length (now reals) ≡ 192) × (length (now words) ≡ 192) ⌝ }
+pub fn put(event: Event, reals: &mut Reals, words: &mut Words, at: usize)
+    requires { ⌜ (at < mostEvents) × (length (now reals) ≡ mostEvents) × (length (now words) ≡ mostEvents) ⌝ }
     ensures { λ _. ⌜ Packs (now (reals .exit)) (now (words .exit)) (at + 1) (packed (now (reals .entry)) (now (words .entry)) at ++ (event ∷ [])) ⌝ }
 {
     reals[at] = reals_of(event);
@@ -80,13 +58,8 @@ pub fn put(
 }
 
 // The first count events, packed.
-pub fn pack(
-    events: [Event; EVENTS],
-    count: usize,
-    reals: &mut [[f64; 3]; EVENTS],
-    words: &mut [[usize; 4]; EVENTS],
-)
-    requires { ⌜ (count ≤ 192) × (length (now reals) ≡ 192) × (length (now words) ≡ 192) ⌝ }
+pub fn pack(events: [Event; EVENTS], count: usize, reals: &mut Reals, words: &mut Words)
+    requires { ⌜ (count ≤ mostEvents) × (length (now reals) ≡ mostEvents) × (length (now words) ≡ mostEvents) ⌝ }
     ensures { λ _. ⌜ packed (now (reals .exit)) (now (words .exit)) count ≡ take count events ⌝ }
 {
     for i in 0..count {

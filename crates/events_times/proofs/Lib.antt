@@ -1,2 +1,2 @@
 pub mod Either
-pub mod Settling
+pub mod Insertions

@@ -1,7 +1,7 @@
 -- Events as 64-bit words, six to an event: 01, "The sheet and its printout". Words that a kind lacks are 0. Definitions only.
 use mathlib.Core.List.{List, [], _∷_}
 use Prim.Native.Nat.{ℕ}
-use Rattle.binary64.specs.Lists.{gather}
+use Rattle.binary64.specs.Lists.{flatMap}
 use Rattle.events.specs.Packed.{bit}
 use Rattle.printout_numbers.specs.Digits.{bitsOf}
 use Rattle.protocol.specs.declared.Event.{Event}
@@ -14,4 +14,4 @@ eventWords (Reset t i v o c) = 2 ∷ bitsOf t ∷ i ∷ bitsOf v ∷ o ∷ bit c
 
 -- one event behind the other
 abbrev pub listWords : List Event → List ℕ
-listWords es = gather eventWords es
+listWords es = flatMap eventWords es

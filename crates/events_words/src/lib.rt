@@ -1,14 +1,13 @@
 // Events written as 64-bit words, six to an event: the layout that `layout` reads. Words that a kind lacks are 0.
+use limits::EVENT_SIZE;
 use protocol::Event;
 ghost use mathlib.Core.Path.{_≡_};
 ghost use Prim.Native.Nat.{_+_, _≤_};
 ghost use lib.ListN.{length};
+ghost use Rattle.limits.specs.Limits.{eventSize};
 ghost use Rattle.printout_numbers.specs.Written.{Wrote};
 ghost use Rattle.events.specs.Packed.{bit};
 ghost use Rattle.events_words.specs.Words.{eventWords};
-
-// Words of an event.
-pub const WORDS: usize = 6;
 
 fn flag(b: bool) -> u64
     ensures { λ r. ⌜ r ≡ bit b ⌝ }
@@ -16,7 +15,7 @@ fn flag(b: bool) -> u64
     if b { 1 } else { 0 }
 }
 
-fn words_of(event: Event) -> [u64; WORDS]
+fn words_of(event: Event) -> [u64; EVENT_SIZE]
     ensures { λ r. ⌜ r ≡ eventWords event ⌝ }
 {
     match event {
@@ -62,19 +61,19 @@ fn words_of(event: Event) -> [u64; WORDS]
     }
 }
 
-fn put_words(out: &mut [u64], at: usize, words: &[u64; WORDS]) -> usize
-    requires { ⌜ (at + 6 ≤ length (now out)) × (length (now words) ≡ 6) ⌝ }
+fn put_words(out: &mut [u64], at: usize, words: &[u64; EVENT_SIZE]) -> usize
+    requires { ⌜ (at + eventSize ≤ length (now out)) × (length (now words) ≡ eventSize) ⌝ }
     ensures { λ r. ⌜ Wrote (now (words .entry)) at (now (out .entry)) r (now (out .exit)) ⌝ }
 {
-    for i in 0..WORDS {
+    for i in 0..EVENT_SIZE {
         out[at + i] = words[i];
     }
-    at + WORDS
+    at + EVENT_SIZE
 }
 
 // The event's words from place at on; the place behind them.
 pub fn put_event(out: &mut [u64], at: usize, event: Event) -> usize
-    requires { ⌜ at + 6 ≤ length (now out) ⌝ }
+    requires { ⌜ at + eventSize ≤ length (now out) ⌝ }
     ensures { λ r. ⌜ Wrote (eventWords event) at (now (out .entry)) r (now (out .exit)) ⌝ }
 {
     let words = words_of(event);

@@ -1,16 +1,17 @@
 // The norm of a block, how often it is halved, and whether a block is finite.
 // Matrices are arrays of arrays, of which the leading m by m part is in use.
-use matrix::BLOCK;
+use limits::BLOCK;
 ghost use mathlib.Core.Path.{_≡_};
 ghost use Prim.Native.Nat.{_≤_, _<_};
 ghost use lib.Ieee.Scale.{finite};
+ghost use Rattle.limits.specs.Limits.{block};
 ghost use Rattle.matrix.specs.Matrix.{at, allTo};
-ghost use Rattle.matrix.specs.Exponential.{rowSum as rowSumOfMagnitudes, normTo, countOf, allFinite};
+ghost use Rattle.matrix.specs.Exponential.{rowSum as rowSumOfMagnitudes, normTo, halvingCount, allFinite};
 ghost use Rattle.exponential_norm.specs.Answers.{halvingsResult};
 
 // The sum of the magnitudes in row i.
 fn row_sum(a: &[[f64; BLOCK]; BLOCK], m: usize, i: usize) -> f64
-    requires { ⌜ (i < 8) × (m ≤ 8) ⌝ }
+    requires { ⌜ (i < block) × (m ≤ block) ⌝ }
     ensures { λ r. ⌜ r ≡ rowSumOfMagnitudes (now (a .entry)) m i ⌝ }
 {
     let mut sum = -0.0f64;
@@ -22,7 +23,7 @@ fn row_sum(a: &[[f64; BLOCK]; BLOCK], m: usize, i: usize) -> f64
 
 // The largest row sum.
 pub fn norm(a: &[[f64; BLOCK]; BLOCK], m: usize) -> f64
-    requires { ⌜ m ≤ 8 ⌝ }
+    requires { ⌜ m ≤ block ⌝ }
     ensures { λ r. ⌜ r ≡ normTo (now (a .entry)) m m ⌝ }
 {
     let mut largest = 0.0f64;
@@ -40,7 +41,7 @@ pub enum Halvings {
 }
 
 pub fn count_halvings(norm: f64, threshold: f64, most: usize) -> Halvings
-    ensures { λ r. ⌜ halvingsResult r ≡ countOf threshold most norm ⌝ }
+    ensures { λ r. ⌜ halvingsResult r ≡ halvingCount threshold most norm ⌝ }
 {
     if !binary64::is_finite(norm) {
         return Halvings::NormNotFinite;
@@ -61,7 +62,7 @@ pub fn count_halvings(norm: f64, threshold: f64, most: usize) -> Halvings
 }
 
 fn row_finite(a: &[[f64; BLOCK]; BLOCK], m: usize, i: usize) -> bool
-    requires { ⌜ (i < 8) × (m ≤ 8) ⌝ }
+    requires { ⌜ (i < block) × (m ≤ block) ⌝ }
     ensures { λ r. ⌜ r ≡ allTo (λ j. finite (at (now (a .entry)) i j)) m ⌝ }
 {
     let mut ok = true;
@@ -72,7 +73,7 @@ fn row_finite(a: &[[f64; BLOCK]; BLOCK], m: usize, i: usize) -> bool
 }
 
 pub fn all_finite(a: &[[f64; BLOCK]; BLOCK], m: usize) -> bool
-    requires { ⌜ m ≤ 8 ⌝ }
+    requires { ⌜ m ≤ block ⌝ }
     ensures { λ r. ⌜ r ≡ allFinite m (now (a .entry)) ⌝ }
 {
     let mut ok = true;

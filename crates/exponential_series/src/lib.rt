@@ -1,30 +1,31 @@
 // The Taylor series of the exponential of a block; a block halved, and squared, a number of times.
 // Matrices are arrays of arrays, of which the leading m by m part is in use.
-use matrix::BLOCK;
+use limits::BLOCK;
 use matrix::row;
 ghost use mathlib.Core.Path.{_≡_};
 ghost use Prim.Native.Nat.{_≤_};
 ghost use mathlib.Core.List.{[]};
 ghost use lib.ListN.{getD, length};
+ghost use Rattle.limits.specs.Limits.{block};
 ghost use Rattle.matrix.specs.Arrays.{updated, rowTimes, rowQuotient, rowSumOf, lead, Holds, rowHalf};
 ghost use Rattle.matrix.specs.Matrix.{identity as identityOf};
 ghost use Rattle.matrix.specs.Exponential.{series as seriesOf, halvedTimes, squarings};
 
-// The next term, term × block / x, in place.
-fn next_term(term: &mut [[f64; BLOCK]; BLOCK], block: &[[f64; BLOCK]; BLOCK], m: usize, x: f64)
-    requires { ⌜ m ≤ 8 ⌝ }
-    ensures { λ _. ⌜ now (term .exit) ≡ updated m (λ i r. rowQuotient (rowTimes r (now (block .entry)) m) x) (now (term .entry)) ⌝ }
+// The next term, term × a / x, in place.
+fn next_term(term: &mut [[f64; BLOCK]; BLOCK], a: &[[f64; BLOCK]; BLOCK], m: usize, x: f64)
+    requires { ⌜ m ≤ block ⌝ }
+    ensures { λ _. ⌜ now (term .exit) ≡ updated m (λ i r. rowQuotient (rowTimes r (now (a .entry)) m) x) (now (term .entry)) ⌝ }
 {
     for i in 0..m {
         let old = term[i];
-        let product = row::times(old, block, m);
+        let product = row::times(old, a, m);
         term[i] = row::divided(product, x);
     }
 }
 
 // sum + term, in place.
 fn add_term(sum: &mut [[f64; BLOCK]; BLOCK], term: &[[f64; BLOCK]; BLOCK], m: usize)
-    requires { ⌜ m ≤ 8 ⌝ }
+    requires { ⌜ m ≤ block ⌝ }
     ensures { λ _. ⌜ now (sum .exit) ≡ updated m (λ i r. rowSumOf r (getD (now (term .entry)) i [])) (now (sum .entry)) ⌝ }
 {
     for i in 0..m {
@@ -35,7 +36,7 @@ fn add_term(sum: &mut [[f64; BLOCK]; BLOCK], term: &[[f64; BLOCK]; BLOCK], m: us
 }
 
 fn identity(m: usize) -> [[f64; BLOCK]; BLOCK]
-    requires { ⌜ m ≤ 8 ⌝ }
+    requires { ⌜ m ≤ block ⌝ }
     ensures { λ r. ⌜ Holds m r (identityOf m) ⌝ }
 {
     let zeros = [0.0f64; BLOCK];
@@ -48,7 +49,7 @@ fn identity(m: usize) -> [[f64; BLOCK]; BLOCK]
 
 // 1 + a + a²/2! + .., the first terms after 1.
 pub fn series(a: [[f64; BLOCK]; BLOCK], m: usize, terms: u32) -> [[f64; BLOCK]; BLOCK]
-    requires { ⌜ m ≤ 8 ⌝ }
+    requires { ⌜ m ≤ block ⌝ }
     ensures { λ r. ⌜ Holds m r (seriesOf m (lead m a) terms .sum) ⌝ }
 {
     let mut term = identity(m);
@@ -63,7 +64,7 @@ pub fn series(a: [[f64; BLOCK]; BLOCK], m: usize, terms: u32) -> [[f64; BLOCK]; 
 
 // a·½, in place
 fn halve(a: &mut [[f64; BLOCK]; BLOCK], m: usize)
-    requires { ⌜ m ≤ 8 ⌝ }
+    requires { ⌜ m ≤ block ⌝ }
     ensures { λ _. ⌜ now (a .exit) ≡ updated m (λ i r. rowHalf r) (now (a .entry)) ⌝ }
 {
     for i in 0..m {
@@ -74,7 +75,7 @@ fn halve(a: &mut [[f64; BLOCK]; BLOCK], m: usize)
 
 // p × p into out.
 fn square(p: &[[f64; BLOCK]; BLOCK], m: usize, out: &mut [[f64; BLOCK]; BLOCK])
-    requires { ⌜ m ≤ 8 ⌝ }
+    requires { ⌜ m ≤ block ⌝ }
     ensures { λ _. ⌜ now (out .exit) ≡ updated m (λ i r. rowTimes (getD (now (p .entry)) i []) (now (p .entry)) m) (now (out .entry)) ⌝ }
 {
     for i in 0..m {
@@ -85,7 +86,7 @@ fn square(p: &[[f64; BLOCK]; BLOCK], m: usize, out: &mut [[f64; BLOCK]; BLOCK])
 
 // The block halved count times, one halving at a time.
 pub fn halved(a: [[f64; BLOCK]; BLOCK], m: usize, count: usize) -> [[f64; BLOCK]; BLOCK]
-    requires { ⌜ (m ≤ 8) × (length a ≡ 8) ⌝ }
+    requires { ⌜ (m ≤ block) × (length a ≡ block) ⌝ }
     ensures { λ r. ⌜ Holds m r (halvedTimes m count (lead m a)) ⌝ }
 {
     let mut r = a;
@@ -97,7 +98,7 @@ pub fn halved(a: [[f64; BLOCK]; BLOCK], m: usize, count: usize) -> [[f64; BLOCK]
 
 // p squared count times: once if count is odd, then two at a time, into one array and back.
 pub fn squared(p: [[f64; BLOCK]; BLOCK], m: usize, count: usize) -> [[f64; BLOCK]; BLOCK]
-    requires { ⌜ (m ≤ 8) × (length p ≡ 8) ⌝ }
+    requires { ⌜ (m ≤ block) × (length p ≡ block) ⌝ }
     ensures { λ r. ⌜ Holds m r (squarings m count (lead m p)) ⌝ }
 {
     let mut r = p;

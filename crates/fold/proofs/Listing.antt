@@ -6,13 +6,13 @@ use Prim.Native.Nat.{ℕ}
 use lib.Dec.{leb}
 use lib.ListN.{length, take}
 use lib.Ieee.{Float}
+use Rattle.limits.specs.Limits.{mostCycleEvents, mostSamples}
 use Rattle.refusal.specs.Result.{refused, done}
 use Rattle.linear_pk.specs.LinearPk.{sound, stateCount}
 use Rattle.linear_pk.specs.declared.kernel.LinearPk.{LinearPk}
-use Rattle.protocol.specs.Entry.{mostSamples}
 use Rattle.protocol.specs.declared.Event.{Event}
 use Rattle.protocol.specs.declared.Window.{Window}
-use Rattle.cycle.specs.Fold.{mostCycleEvents, fold}
+use Rattle.cycle.specs.Fold.{fold}
 use Rattle.fold.specs.Entry.{foldEntry}
 
 -- ---- 5, 1, 2, then the fold

@@ -5,14 +5,14 @@ use Prim.Native.Nat.{ℕ}
 use lib.Dec.{leb}
 use lib.ListN.{length, take}
 use lib.Ieee.{Float}
+use Rattle.limits.specs.Limits.{mostCycleEvents, mostSamples}
 use Rattle.refusal.specs.Result.{Result, andThen, unless}
 use Rattle.linear_pk.specs.LinearPk.{sound, stateCount}
 use Rattle.linear_pk.specs.declared.kernel.LinearPk.{LinearPk}
-use Rattle.protocol.specs.Entry.{mostSamples}
 use Rattle.protocol.specs.declared.Event.{Event}
 use Rattle.protocol.specs.declared.Window.{Window}
-use Rattle.cycle.specs.Fold.{mostCycleEvents, fold}
-pub use Rattle.fold_list.specs.Answers.{eventIn, Answer, told}
+use Rattle.cycle.specs.Fold.{fold}
+pub use Rattle.fold_list.specs.Answers.{eventIn, Answer, foldAnswer}
 unfoldable pub use Rattle.fold_list.specs.Answers.{filled, answerOf}
 
 -- 5, the kernel's own test, the fold of the first `count` events

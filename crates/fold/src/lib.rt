@@ -1,9 +1,10 @@
 // `normalize_periodic_cycle`: the list of a cycle packed, folded into one period, and set in the places of an answer.
-use events::EVENTS;
 use fold_list::list_of;
 use fold_list::refused_cycle;
+use limits::CYCLE_EVENTS;
+use limits::EVENTS;
+use limits::SAMPLES;
 use linear_pk::LinearPk;
-use preparation::SAMPLES;
 use protocol::Event;
 use protocol::Window;
 use refusal::Refusal;
@@ -11,14 +12,12 @@ use refusal::Reply;
 ghost use mathlib.Core.Path.{_≡_};
 ghost use Prim.Native.Nat.{_≤_};
 ghost use lib.ListN.{take};
+ghost use Rattle.limits.specs.Limits.{states, mostCycleEvents};
 ghost use Rattle.cycle.specs.Fold.{fold};
-ghost use Rattle.fold_list.specs.Answers.{answerOf, told};
+ghost use Rattle.fold_list.specs.Answers.{answerOf, foldAnswer};
 ghost use Rattle.fold.specs.Entry.{foldEntry};
 pub use fold_list::FoldedCycle;
-pub use fold_list::Listed;
-
-// The most events of a cycle's list before it is folded.
-pub const CYCLE_EVENTS: usize = 64;
+pub use fold_list::Place;
 
 // The first count events for n states, folded.
 pub fn folded_list(
@@ -28,8 +27,8 @@ pub fn folded_list(
     count: usize,
     samples: &[f64],
 ) -> FoldedCycle
-    requires { ⌜ (n ≤ 4) × (count ≤ 64) ⌝ }
-    ensures { λ r. ⌜ told r ≡ answerOf (fold n window (now (samples .entry)) (take count events)) ⌝ }
+    requires { ⌜ (n ≤ states) × (count ≤ mostCycleEvents) ⌝ }
+    ensures { λ r. ⌜ foldAnswer r ≡ answerOf (fold n window (now (samples .entry)) (take count events)) ⌝ }
 {
     let real = [0.0f64; 3];
     let mut reals = [real; EVENTS];
@@ -65,7 +64,7 @@ pub fn normalize_periodic_cycle(
     count: usize,
     samples: &[f64],
 ) -> FoldedCycle
-    ensures { λ r. ⌜ told r ≡ answerOf (foldEntry kernel window (now (samples .entry)) events count) ⌝ }
+    ensures { λ r. ⌜ foldAnswer r ≡ answerOf (foldEntry kernel window (now (samples .entry)) events count) ⌝ }
 {
     if count > CYCLE_EVENTS {
         return refused_cycle(Refusal::Limit);

@@ -1,4 +1,4 @@
--- The infusion of a list: refused, or lasting up to its stop.
+-- The infusion of a list: refused, or infusionPieces up to its stop.
 use mathlib.Core.Path.{_≡_}
 use mathlib.Core.Bool.{Bool, true, false}
 use mathlib.Core.List.{List}
@@ -9,7 +9,7 @@ use Rattle.refusal.specs.Result.{refused}
 use Rattle.protocol.specs.declared.Event.{Event}
 use Rattle.protocol.specs.declared.Event.the-variants.{Infusion}
 use Rattle.protocol.specs.declared.Window.{Window}
-use Rattle.cycle.specs.Fold.{period, infusionPasses, stopping, stopOf, lasting, pieces}
+use Rattle.cycle.specs.Fold.{period, infusionPasses, stopping, stopOf, infusionPieces, pieces}
 
 module _ (w : Window) (es : List Event) (t : Float) (i : ℕ) (a d : Float) {b : Bool} (p : b ≡ infusionPasses t a d) where
   pub infusion-fails : b ≡ false → pieces w es (Infusion t i a d) ≡ refused 17
@@ -18,6 +18,6 @@ module _ (w : Window) (es : List Event) (t : Float) (i : ℕ) (a d : Float) {b :
 
   pub infusion-lasts :
       {s : Float} {c : Bool} → b ≡ true → s ≡ stopOf (period w) t i (add binary64 t d) es → c ≡ any (stopping i) es
-      → pieces w es (Infusion t i a d) ≡ lasting c w t i (div binary64 a d) (sub binary64 s t)
+      → pieces w es (Infusion t i a d) ≡ infusionPieces c w t i (div binary64 a d) (sub binary64 s t)
   unfolding pieces
   infusion-lasts h e q = rw (← p, h, e, q)

@@ -14,6 +14,7 @@ pub bolus-copied : (w : Window) (es : List Event) {t : Float} {i : ℕ} {a : Flo
 unfolding pieces
 bolus-copied w es e h = rw h
 
-pub reset-copied : (w : Window) (es : List Event) {t : Float} {i : ℕ} {v : Float} {o : ℕ} {c : Bool} (e : Event) → e ≡ Reset t i v o c → pieces w es e ≡ done (e ∷ [])
+pub reset-copied : (w : Window) (es : List Event) {t : Float} {i : ℕ} {v : Float} {o : ℕ} {c : Bool} (e : Event) → e ≡ Reset t i v o c
+    → pieces w es e ≡ done (e ∷ [])
 unfolding pieces
 reset-copied w es e h = rw h

@@ -4,6 +4,7 @@ use mathlib.Core.List.{List}
 use Prim.Native.Nat.{ℕ, _≤_}
 use lib.ListN.{length}
 use lib.Ieee.{Float}
+use Rattle.limits.specs.Limits.{mostEvents}
 use Rattle.refusal.specs.Result.{Result}
 use Rattle.refusal.specs.Numbers.{resultOf}
 use Rattle.protocol.specs.declared.Event.{Event}
@@ -12,7 +13,7 @@ use Rattle.fold_stop.specs.declared.Folding.{Folding}
 
 -- arrays of 192 places, and a reply: the list in their first places, at most `most`, or a refusal
 pub record Folds (most : ℕ) (rs : List (List Float)) (ws : List (List ℕ)) (r : Folding) (o : Result (List Event)) : Type 0 where
-  pub reals : length rs ≡ 192
-  pub words : length ws ≡ 192
+  pub reals : length rs ≡ mostEvents
+  pub words : length ws ≡ mostEvents
   pub held : resultOf (r .reply) (packed rs ws (r .count)) ≡ o
   pub room : r .count ≤ most

@@ -1,5 +1,6 @@
 // One event of a cycle folded: an infusion its pieces within one period, any other event itself; 16, 17, 18, 13.
-use events::EVENTS;
+use events::Reals;
+use events::Words;
 use fold_stop::Folding;
 use protocol::Event;
 use protocol::Window;
@@ -8,6 +9,7 @@ use refusal::Reply;
 ghost use mathlib.Core.Path.{_≡_};
 ghost use Prim.Native.Nat.{_≤_, _+_, _<_};
 ghost use lib.ListN.{length};
+ghost use Rattle.limits.specs.Limits.{mostEvents};
 ghost use Rattle.events.specs.Packed.{packed, eventAt};
 ghost use Rattle.protocol.specs.declared.Event.the-variants.{Infusion};
 ghost use Rattle.cycle.specs.Fold.{pieces as piecesOf, timePasses, withEvent};
@@ -19,18 +21,18 @@ ghost use Rattle.fold_event.specs.Folds.{Folds};
 // The pieces of an infusion of the list of count events: 17, 18.
 pub fn infusion(
     window: Window,
-    reals: &[[f64; 3]; EVENTS],
-    words: &[[usize; 4]; EVENTS],
+    reals: &Reals,
+    words: &Words,
     count: usize,
     time: f64,
     target: usize,
     amount: f64,
     duration: f64,
-    out_reals: &mut [[f64; 3]; EVENTS],
-    out_words: &mut [[usize; 4]; EVENTS],
+    out_reals: &mut Reals,
+    out_words: &mut Words,
     at: usize,
 ) -> Folding
-    requires { ⌜ (count ≤ 192) × (at + 3 ≤ 192) × (length (now «out_reals») ≡ 192) × (length (now «out_words») ≡ 192) ⌝ }
+    requires { ⌜ (count ≤ mostEvents) × (at + 3 ≤ mostEvents) × (length (now «out_reals») ≡ mostEvents) × (length (now «out_words») ≡ mostEvents) ⌝ }
     ensures { λ r. ⌜ Replies (now («out_reals» .entry)) (now («out_words» .entry)) at (now («out_reals» .exit)) (now («out_words» .exit)) r
         (piecesOf window (packed (now (reals .entry)) (now (words .entry)) count) (Infusion time target amount duration)) ⌝ }
 {
@@ -40,7 +42,7 @@ pub fn infusion(
     let period = window.end - window.start;
     let until = fold_stop::stop_of(period, time, target, time + duration, reals, words, count);
     let stops = fold_stop::has_stop(target, reals, words, count);
-    fold_infusion::lasting(
+    fold_infusion::infusion_pieces(
         stops,
         window,
         time,
@@ -54,13 +56,8 @@ pub fn infusion(
 }
 
 // The event as it is, behind the list so far.
-fn copied(
-    event: Event,
-    reals: &mut [[f64; 3]; EVENTS],
-    words: &mut [[usize; 4]; EVENTS],
-    at: usize,
-) -> Folding
-    requires { ⌜ (at + 3 ≤ 192) × (length (now reals) ≡ 192) × (length (now words) ≡ 192) ⌝ }
+fn copied(event: Event, reals: &mut Reals, words: &mut Words, at: usize) -> Folding
+    requires { ⌜ (at + 3 ≤ mostEvents) × (length (now reals) ≡ mostEvents) × (length (now words) ≡ mostEvents) ⌝ }
     ensures { λ r. ⌜ Replies (now (reals .entry)) (now (words .entry)) at (now (reals .exit)) (now (words .exit)) r (done (event ∷ [])) ⌝ }
 {
     events_packing::put(event, reals, words, at);
@@ -73,24 +70,20 @@ fn copied(
 // The pieces of one event of the list of count events.
 pub fn pieces(
     window: Window,
-    reals: &[[f64; 3]; EVENTS],
-    words: &[[usize; 4]; EVENTS],
+    reals: &Reals,
+    words: &Words,
     count: usize,
     event: Event,
-    out_reals: &mut [[f64; 3]; EVENTS],
-    out_words: &mut [[usize; 4]; EVENTS],
+    out_reals: &mut Reals,
+    out_words: &mut Words,
     at: usize,
 ) -> Folding
-    requires { ⌜ (count ≤ 192) × (at + 3 ≤ 192) × (length (now «out_reals») ≡ 192) × (length (now «out_words») ≡ 192) ⌝ }
+    requires { ⌜ (count ≤ mostEvents) × (at + 3 ≤ mostEvents) × (length (now «out_reals») ≡ mostEvents) × (length (now «out_words») ≡ mostEvents) ⌝ }
     ensures { λ r. ⌜ Replies (now («out_reals» .entry)) (now («out_words» .entry)) at (now («out_reals» .exit)) (now («out_words» .exit)) r
         (piecesOf window (packed (now (reals .entry)) (now (words .entry)) count) event) ⌝ }
 {
     match event {
-        Event::Bolus {
-            time: _,
-            target: _,
-            amount: _,
-        } => copied(event, out_reals, out_words, at),
+        Event::Bolus { .. } => copied(event, out_reals, out_words, at),
         Event::Infusion {
             time,
             target,
@@ -109,13 +102,7 @@ pub fn pieces(
             out_words,
             at,
         ),
-        Event::Reset {
-            time: _,
-            target: _,
-            value: _,
-            order: _,
-            stops: _,
-        } => copied(event, out_reals, out_words, at),
+        Event::Reset { .. } => copied(event, out_reals, out_words, at),
     }
 }
 
@@ -129,17 +116,19 @@ fn time_passes(window: Window, time: f64) -> bool
 // The event at place i, behind the list so far: 16, 17, 18, 13.
 pub fn with_event(
     window: Window,
-    reals: &[[f64; 3]; EVENTS],
-    words: &[[usize; 4]; EVENTS],
+    reals: &Reals,
+    words: &Words,
     count: usize,
     i: usize,
-    out_reals: &mut [[f64; 3]; EVENTS],
-    out_words: &mut [[usize; 4]; EVENTS],
+    out_reals: &mut Reals,
+    out_words: &mut Words,
     at: usize,
 ) -> Folding
-    requires { ⌜ (count ≤ 192) × (i < 192) × (at + 3 ≤ 192) × (length (now «out_reals») ≡ 192) × (length (now «out_words») ≡ 192) ⌝ }
+    requires { ⌜ (count ≤ mostEvents) × (i < mostEvents) × (at + 3 ≤ mostEvents) × (length (now «out_reals») ≡ mostEvents)
+        × (length (now «out_words») ≡ mostEvents) ⌝ }
     ensures { λ r. ⌜ Folds (at + 3) (now («out_reals» .exit)) (now («out_words» .exit)) r
-        (withEvent window (packed (now (reals .entry)) (now (words .entry)) count) (eventAt (now (reals .entry)) (now (words .entry)) i) (packed (now («out_reals» .entry)) (now («out_words» .entry)) at)) ⌝ }
+        (withEvent window (packed (now (reals .entry)) (now (words .entry)) count) (eventAt (now (reals .entry)) (now (words .entry)) i)
+        (packed (now («out_reals» .entry)) (now («out_words» .entry)) at)) ⌝ }
 {
     let event = events::event_at(reals, words, i);
     if !time_passes(window, events::time_of(event)) {

@@ -7,6 +7,7 @@ use native.Mathlib.Omega.{arith}
 use borrow.Author.Tests.{lt-leb, le-leb}
 use lib.ListN.{length}
 use lib.Ieee.{Float}
+use Rattle.limits.specs.Limits.{mostEvents}
 use Rattle.binary64.specs.Lists.{all}
 use Rattle.refusal.specs.Result.{Result, refused, done, andThen, unless, valueOr}
 use Rattle.refusal.specs.Numbers.{refusalNumber, replyNumber, resultOf}
@@ -18,7 +19,7 @@ use Rattle.protocol.specs.Prepare.{windowPasses, within, eventsPass}
 use Rattle.protocol.specs.declared.Event.{Event}
 use Rattle.protocol.specs.declared.Window.{Window}
 use Rattle.matrix.specs.Matrix.{tabulate, tabulateFrom}
-use Rattle.preparation.specs.Preparation.{validateOf, numberOf}
+use Rattle.preparation.specs.Preparation.{validateOf, optionNumber}
 use Rattle.refusal.proofs.Numbers.{refusal-number}
 use Rattle.events.specs.Packed.{eventAt, packed}
 use Rattle.events.proofs.Packing.{packed-length}
@@ -37,16 +38,17 @@ module _ (w : Window) (rs : List (List Float)) (ws : List (List ℕ)) (count : �
   pub record Going (i at : ℕ) (os : List (List Float)) (us : List (List ℕ)) : Type 0 where
     pub below : i ≤ count
     pub room : at ≤ 3 * i
-    pub reals : length os ≡ 192
-    pub words : length us ≡ 192
+    pub reals : length os ≡ mostEvents
+    pub words : length us ≡ mostEvents
     pub rest : withEvents w (packed rs ws count) (left (eventAt rs ws) count i) (packed os us at) ≡ whole
 
-  pub going-start : (os : List (List Float)) (us : List (List ℕ)) → length os ≡ 192 → length us ≡ 192 → Going 0 0 os us
+  pub going-start : (os : List (List Float)) (us : List (List ℕ)) → length os ≡ mostEvents → length us ≡ mostEvents → Going 0 0 os us
   unfolding packed tabulate tabulateFrom
   going-start os us a b = record { below = omega arith; room = omega arith; reals = a; words = b; rest = rw (left-start (eventAt rs ws) count) }
 
   module _ {i at : ℕ} {os : List (List Float)} {us : List (List ℕ)} (g : Going i at os us) where
-    module _ (l : i < count) {os' : List (List Float)} {us' : List (List ℕ)} {r : Folding} (f : Folds (at + 3) os' us' r (withEvent w (packed rs ws count) (eventAt rs ws i) (packed os us at))) where
+    module _ (l : i < count) {os' : List (List Float)} {us' : List (List ℕ)} {r : Folding}
+        (f : Folds (at + 3) os' us' r (withEvent w (packed rs ws count) (eventAt rs ws i) (packed os us at))) where
       step : andThen (resultOf (r .reply) (packed os' us' (r .count))) (λ d. withEvents w (packed rs ws count) (left (eventAt rs ws) count (i + 1)) d) ≡ whole
       unfolding withEvents
       step = rw (f .held) (rw (left-more (eventAt rs ws) count i l) at (g .rest))
@@ -64,12 +66,12 @@ module _ (w : Window) (rs : List (List Float)) (ws : List (List ℕ)) (count : �
 -- ---- 10, 11, 12
 module _ (n : ℕ) (w : Window) (ss : List Float) (es : List Event) where
   abbrev numbered : Bool → Bool → Bool → ℕ
-  numbered a b c = numberOf (F.firstOf (F.unless a 10 ∷ F.unless b 11 ∷ F.unless c 12 ∷ []))
+  numbered a b c = optionNumber (F.firstOf (F.unless a 10 ∷ F.unless b 11 ∷ F.unless c 12 ∷ []))
 
   abbrev tested : Bool → Bool → Result (List Event)
   tested a b = andThen (unless a 10 es) (λ es. andThen (unless b 11 es) (λ es. unless (eventsPass n w [] es) 12 es))
 
-  pub validated-refused : (x : Refusal) → refusalNumber x ≡ numberOf (validateOf n w ss es) → refused (refusalNumber x) ≡ validated n w ss es
+  pub validated-refused : (x : Refusal) → refusalNumber x ≡ optionNumber (validateOf n w ss es) → refused (refusalNumber x) ≡ validated n w ss es
   unfolding validateOf validated
   validated-refused x = on (windowPasses w) (all (within w) ss) (refusal-number x)
     where
@@ -88,7 +90,7 @@ module _ (n : ℕ) (w : Window) (ss : List Float) (es : List Event) where
       on true false h e = ap refused e
       on false b h e = ap refused e
 
-  pub validated-done : 0 ≡ numberOf (validateOf n w ss es) → done es ≡ validated n w ss es
+  pub validated-done : 0 ≡ optionNumber (validateOf n w ss es) → done es ≡ validated n w ss es
   unfolding validateOf validated
   validated-done = on (windowPasses w) (all (within w) ss)
     where
@@ -130,7 +132,7 @@ module _ (n : ℕ) (w : Window) (ss : List Float) (rs : List (List Float)) (ws :
         fold-listed : r .reply ≡ Done → fold n w ss (packed rs ws count) ≡ validated n w ss (packed os us (r .count))
         fold-listed q = fold-on ∙ rw (← f .held, q)
 
-        module _ (d : r .reply ≡ Done) {v : Reply} (g : replyNumber v ≡ numberOf (validateOf n w ss (packed os us (r .count)))) where
+        module _ (d : r .reply ≡ Done) {v : Reply} (g : replyNumber v ≡ optionNumber (validateOf n w ss (packed os us (r .count)))) where
           pub list-refused : (x : Refusal) → v ≡ Refused x → refused (refusalNumber x) ≡ fold n w ss (packed rs ws count)
           list-refused x q = validated-refused n w ss (packed os us (r .count)) x (rw q at g) ∙ sym (fold-listed d)
 
@@ -138,16 +140,24 @@ module _ (n : ℕ) (w : Window) (ss : List Float) (rs : List (List Float)) (ws :
           list-folds q = validated-done n w ss (packed os us (r .count)) (rw q at g) ∙ sym (fold-listed d)
 
 -- ---- the three promises of an answer
-pub promised : {rs : List (List Float)} {ws : List (List ℕ)} {r : Folding} {o : Result (List Event)} → Folds 192 rs ws r o → r .count ≡ length (valueOr o [])
-    → (resultOf (r .reply) (packed rs ws (r .count)) ≡ o) × ((r .count ≡ length (valueOr o [])) × ((r .count ≤ 192) × (length rs ≡ 192) × (length ws ≡ 192)))
+pub promised : {rs : List (List Float)} {ws : List (List ℕ)} {r : Folding} {o : Result (List Event)} → Folds mostEvents rs ws r o
+    → r .count ≡ length (valueOr o [])
+    → (resultOf (r .reply) (packed rs ws (r .count)) ≡ o)
+    × ((r .count ≡ length (valueOr o [])) × ((r .count ≤ mostEvents) × (length rs ≡ mostEvents) × (length ws ≡ mostEvents)))
 promised f e = (f .held, (e, (f .room, f .reals, f .words)))
 
 pub promised-refused :
-    (rs : List (List Float)) (ws : List (List ℕ)) (x : Refusal) {r : Folding} {o : Result (List Event)} → length rs ≡ 192 → length ws ≡ 192 → (r .reply ≡ Refused x) × (r .count ≡ 0) → refused (refusalNumber x) ≡ o
-    → (resultOf (r .reply) (packed rs ws (r .count)) ≡ o) × ((r .count ≡ length (valueOr o [])) × ((r .count ≤ 192) × (length rs ≡ 192) × (length ws ≡ 192)))
-promised-refused rs ws x a b q e = promised (folds-refused 192 rs ws x a b q e) (q .1 ∙ ap (λ (o : Result (List Event)). length (valueOr o [])) e)
+    (rs : List (List Float)) (ws : List (List ℕ)) (x : Refusal) {r : Folding} {o : Result (List Event)} → length rs ≡ mostEvents
+    → length ws ≡ mostEvents → (r .reply ≡ Refused x) × (r .count ≡ 0) → refused (refusalNumber x) ≡ o
+    → (resultOf (r .reply) (packed rs ws (r .count)) ≡ o)
+    × ((r .count ≡ length (valueOr o [])) × ((r .count ≤ mostEvents) × (length rs ≡ mostEvents) × (length ws ≡ mostEvents)))
+promised-refused rs ws x a b q e = promised (folds-refused mostEvents rs ws x a b q e) (q .1 ∙ ap (λ (o : Result (List Event)). length (valueOr o [])) e)
 
 pub promised-done :
-    (rs : List (List Float)) (ws : List (List ℕ)) (r : Folding) {o : Result (List Event)} → length rs ≡ 192 → length ws ≡ 192 → r .count ≤ 192 → r .reply ≡ Done → done (packed rs ws (r .count)) ≡ o
-    → (resultOf (r .reply) (packed rs ws (r .count)) ≡ o) × ((r .count ≡ length (valueOr o [])) × ((r .count ≤ 192) × (length rs ≡ 192) × (length ws ≡ 192)))
-promised-done rs ws r a b l q e = promised (folds-done 192 rs ws r a b q l e) (sym (packed-length rs ws (r .count)) ∙ ap (λ (o : Result (List Event)). length (valueOr o [])) e)
+    (rs : List (List Float)) (ws : List (List ℕ)) (r : Folding) {o : Result (List Event)} → length rs ≡ mostEvents → length ws ≡ mostEvents
+    → r .count ≤ mostEvents → r .reply ≡ Done → done (packed rs ws (r .count)) ≡ o
+    → (resultOf (r .reply) (packed rs ws (r .count)) ≡ o)
+    × ((r .count ≡ length (valueOr o [])) × ((r .count ≤ mostEvents) × (length rs ≡ mostEvents) × (length ws ≡ mostEvents)))
+promised-done rs ws r a b l q e =
+    promised (folds-done mostEvents rs ws r a b q l e) (sym (packed-length rs ws (r .count))
+    ∙ ap (λ (o : Result (List Event)). length (valueOr o [])) e)

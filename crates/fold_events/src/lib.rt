@@ -1,5 +1,6 @@
 // Packed lists folded: 15, 13, then event by event 16, 17, 18, 13, at last 10, 11, 12.
-use events::EVENTS;
+use events::Reals;
+use events::Words;
 use fold_event::with_event;
 use protocol::Window;
 use refusal::Refusal;
@@ -8,6 +9,7 @@ ghost use mathlib.Core.Path.{_≡_};
 ghost use mathlib.Core.List.{[]};
 ghost use Prim.Native.Nat.{_≤_, _*_};
 ghost use lib.ListN.{length};
+ghost use Rattle.limits.specs.Limits.{states, mostCycleEvents, mostEvents};
 ghost use Rattle.refusal.specs.Result.{valueOr};
 ghost use Rattle.refusal.specs.Numbers.{resultOf};
 ghost use Rattle.events.specs.Packed.{packed};
@@ -26,13 +28,13 @@ fn cycle_passes(window: Window) -> bool
 // The events one by one.
 fn with_events(
     window: Window,
-    reals: &[[f64; 3]; EVENTS],
-    words: &[[usize; 4]; EVENTS],
+    reals: &Reals,
+    words: &Words,
     count: usize,
-    out_reals: &mut [[f64; 3]; EVENTS],
-    out_words: &mut [[usize; 4]; EVENTS],
+    out_reals: &mut Reals,
+    out_words: &mut Words,
 ) -> Folding
-    requires { ⌜ (count ≤ 64) × (length (now «out_reals») ≡ 192) × (length (now «out_words») ≡ 192) ⌝ }
+    requires { ⌜ (count ≤ mostCycleEvents) × (length (now «out_reals») ≡ mostEvents) × (length (now «out_words») ≡ mostEvents) ⌝ }
     ensures { λ r. ⌜ Folds (3 * count) (now («out_reals» .exit)) (now («out_words» .exit)) r
         (withEvents window (packed (now (reals .entry)) (now (words .entry)) count) (packed (now (reals .entry)) (now (words .entry)) count) []) ⌝ }
 {
@@ -60,17 +62,17 @@ pub fn folded(
     n: usize,
     window: Window,
     samples: &[f64],
-    reals: &[[f64; 3]; EVENTS],
-    words: &[[usize; 4]; EVENTS],
+    reals: &Reals,
+    words: &Words,
     count: usize,
-    out_reals: &mut [[f64; 3]; EVENTS],
-    out_words: &mut [[usize; 4]; EVENTS],
+    out_reals: &mut Reals,
+    out_words: &mut Words,
 ) -> Folding
-    requires { ⌜ (n ≤ 4) × (count ≤ 64) × (length (now «out_reals») ≡ 192) × (length (now «out_words») ≡ 192) ⌝ }
+    requires { ⌜ (n ≤ states) × (count ≤ mostCycleEvents) × (length (now «out_reals») ≡ mostEvents) × (length (now «out_words») ≡ mostEvents) ⌝ }
     ensures { λ r. ⌜ resultOf (r .reply) (packed (now («out_reals» .exit)) (now («out_words» .exit)) (r .count))
         ≡ fold n window (now (samples .entry)) (packed (now (reals .entry)) (now (words .entry)) count) ⌝ }
     ensures { λ r. ⌜ r .count ≡ length (valueOr (fold n window (now (samples .entry)) (packed (now (reals .entry)) (now (words .entry)) count)) []) ⌝ }
-    ensures { λ r. ⌜ (r .count ≤ 192) × (length (now («out_reals» .exit)) ≡ 192) × (length (now («out_words» .exit)) ≡ 192) ⌝ }
+    ensures { λ r. ⌜ (r .count ≤ mostEvents) × (length (now («out_reals» .exit)) ≡ mostEvents) × (length (now («out_words» .exit)) ≡ mostEvents) ⌝ }
 {
     if !cycle_passes(window) {
         return fold_stop::refused(Refusal::Period);

@@ -1,3 +1,3 @@
 pub mod InfusionParts
 pub mod WholePeriods
-pub mod LastingInfusion
+pub mod InfusionPieces

@@ -1,5 +1,6 @@
 // An infusion up to its stop: whole periods unless a reset stops the infusions on its target, head and tail, behind a packed list.
-use events::EVENTS;
+use events::Reals;
+use events::Words;
 use fold_stop::Folding;
 use protocol::Event;
 use protocol::Window;
@@ -10,9 +11,10 @@ ghost use mathlib.Core.List.{[], _∷_};
 ghost use Prim.Native.Nat.{_≤_, _+_};
 ghost use lib.ListN.{length};
 ghost use lib.Ieee.{lt};
+ghost use Rattle.limits.specs.Limits.{mostEvents};
 ghost use Rattle.binary64.specs.Doubles.{plusZero};
 ghost use Rattle.binary64.specs.Lists.{pick};
-ghost use Rattle.cycle.specs.Fold.{piece, parts as partsOf, wholes as wholesOf, lasting as lastingOf};
+ghost use Rattle.cycle.specs.Fold.{piece, parts as partsOf, wholePeriods as wholePeriodsOf, infusionPieces as piecesOf};
 ghost use Rattle.fold_stop.specs.Appended.{Appends, Replies};
 
 // Of the rate over the duration, at the time.
@@ -21,11 +23,11 @@ fn push_piece(
     target: usize,
     rate: f64,
     duration: f64,
-    reals: &mut [[f64; 3]; EVENTS],
-    words: &mut [[usize; 4]; EVENTS],
+    reals: &mut Reals,
+    words: &mut Words,
     at: usize,
 ) -> usize
-    requires { ⌜ (at + 1 ≤ 192) × (length (now reals) ≡ 192) × (length (now words) ≡ 192) ⌝ }
+    requires { ⌜ (at + 1 ≤ mostEvents) × (length (now reals) ≡ mostEvents) × (length (now words) ≡ mostEvents) ⌝ }
     ensures { λ r. ⌜ Appends (now (reals .entry)) (now (words .entry)) at (now (reals .exit)) (now (words .exit)) r 1 (piece time target rate duration ∷ []) ⌝ }
 {
     let event = Event::Infusion {
@@ -44,12 +46,13 @@ fn tail(
     target: usize,
     rate: f64,
     duration: f64,
-    reals: &mut [[f64; 3]; EVENTS],
-    words: &mut [[usize; 4]; EVENTS],
+    reals: &mut Reals,
+    words: &mut Words,
     at: usize,
 ) -> usize
-    requires { ⌜ (at + 1 ≤ 192) × (length (now reals) ≡ 192) × (length (now words) ≡ 192) ⌝ }
-    ensures { λ r. ⌜ Appends (now (reals .entry)) (now (words .entry)) at (now (reals .exit)) (now (words .exit)) r 1 (pick (lt plusZero duration) (piece start target rate duration) []) ⌝ }
+    requires { ⌜ (at + 1 ≤ mostEvents) × (length (now reals) ≡ mostEvents) × (length (now words) ≡ mostEvents) ⌝ }
+    ensures { λ r. ⌜ Appends (now (reals .entry)) (now (words .entry)) at (now (reals .exit)) (now (words .exit)) r 1
+        (pick (lt plusZero duration) (piece start target rate duration) []) ⌝ }
 {
     if 0.0 < duration {
         return push_piece(start, target, rate, duration, reals, words, at);
@@ -64,11 +67,11 @@ pub fn parts(
     target: usize,
     rate: f64,
     left: f64,
-    reals: &mut [[f64; 3]; EVENTS],
-    words: &mut [[usize; 4]; EVENTS],
+    reals: &mut Reals,
+    words: &mut Words,
     at: usize,
 ) -> usize
-    requires { ⌜ (at + 2 ≤ 192) × (length (now reals) ≡ 192) × (length (now words) ≡ 192) ⌝ }
+    requires { ⌜ (at + 2 ≤ mostEvents) × (length (now reals) ≡ mostEvents) × (length (now words) ≡ mostEvents) ⌝ }
     ensures { λ r. ⌜ Appends (now (reals .entry)) (now (words .entry)) at (now (reals .exit)) (now (words .exit)) r 2 (partsOf window time target rate left) ⌝ }
 {
     if 0.0 < left {
@@ -80,19 +83,20 @@ pub fn parts(
 }
 
 // The whole periods, if there is one, then head and tail of the remainder.
-pub fn wholes(
+pub fn whole_periods(
     window: Window,
     time: f64,
     target: usize,
     rate: f64,
     left: f64,
     periods: f64,
-    reals: &mut [[f64; 3]; EVENTS],
-    words: &mut [[usize; 4]; EVENTS],
+    reals: &mut Reals,
+    words: &mut Words,
     at: usize,
 ) -> usize
-    requires { ⌜ (at + 3 ≤ 192) × (length (now reals) ≡ 192) × (length (now words) ≡ 192) ⌝ }
-    ensures { λ r. ⌜ Appends (now (reals .entry)) (now (words .entry)) at (now (reals .exit)) (now (words .exit)) r 3 (wholesOf window time target rate left periods) ⌝ }
+    requires { ⌜ (at + 3 ≤ mostEvents) × (length (now reals) ≡ mostEvents) × (length (now words) ≡ mostEvents) ⌝ }
+    ensures { λ r. ⌜ Appends (now (reals .entry)) (now (words .entry)) at (now (reals .exit)) (now (words .exit)) r 3
+        (wholePeriodsOf window time target rate left periods) ⌝ }
 {
     if 1.0 <= periods {
         let period = window.end - window.start;
@@ -118,19 +122,20 @@ pub fn wholes(
 }
 
 // No whole periods where a reset stops the target's infusions; else 18 where their count is not finite.
-pub fn lasting(
+pub fn infusion_pieces(
     stops: bool,
     window: Window,
     time: f64,
     target: usize,
     rate: f64,
     left: f64,
-    reals: &mut [[f64; 3]; EVENTS],
-    words: &mut [[usize; 4]; EVENTS],
+    reals: &mut Reals,
+    words: &mut Words,
     at: usize,
 ) -> Folding
-    requires { ⌜ (at + 3 ≤ 192) × (length (now reals) ≡ 192) × (length (now words) ≡ 192) ⌝ }
-    ensures { λ r. ⌜ Replies (now (reals .entry)) (now (words .entry)) at (now (reals .exit)) (now (words .exit)) r (lastingOf stops window time target rate left) ⌝ }
+    requires { ⌜ (at + 3 ≤ mostEvents) × (length (now reals) ≡ mostEvents) × (length (now words) ≡ mostEvents) ⌝ }
+    ensures { λ r. ⌜ Replies (now (reals .entry)) (now (words .entry)) at (now (reals .exit)) (now (words .exit)) r
+        (piecesOf stops window time target rate left) ⌝ }
 {
     if stops {
         return Folding {
@@ -145,6 +150,6 @@ pub fn lasting(
     }
     Folding {
         reply: Reply::Done,
-        count: wholes(window, time, target, rate, left, periods, reals, words, at),
+        count: whole_periods(window, time, target, rate, left, periods, reals, words, at),
     }
 }

@@ -6,6 +6,7 @@ use native.Mathlib.Omega.{arith}
 use lib.ListN.{length, getD, take, replicate, List·getD-eq-default}
 use lib.Seq.{take-all}
 use lib.Ieee.{Float}
+use Rattle.limits.specs.Limits.{mostEvents}
 use Rattle.refusal.specs.Result.{Result, refused, valueOr}
 use Rattle.refusal.specs.Numbers.{resultOf}
 use Rattle.refusal.specs.declared.Reply.{Reply}
@@ -17,7 +18,7 @@ use Rattle.protocol.specs.declared.Event.{Event}
 use Rattle.events.specs.Packed.{eventAt, packed}
 use Rattle.events.proofs.Packing.{packed-length, tabulate-take}
 use Rattle.fold_list.specs.Answers.{filled, eventIn, answerOf}
-use Rattle.fold_list.specs.declared.Listed.{Listed}
+use Rattle.fold_list.specs.declared.Place.{Place}
 
 module _ (rs : List (List Float)) (ws : List (List ℕ)) (count i : ℕ) (d : Event) where
   pub listed-in : i < count → getD (packed rs ws count) i d ≡ eventAt rs ws i
@@ -33,11 +34,16 @@ unfolding tabulateFrom
 from-constant z i zero = refl
 from-constant z i (suc m) = ap (_∷_ z) (from-constant z (suc i) m)
 
-nothing-filled : replicate 192 (record { event = noEvent }) ≡ filled []
+nothing-filled : replicate mostEvents (record { event = noEvent }) ≡ filled []
 unfolding filled tabulate
-nothing-filled = from-constant (record { event = noEvent }) 0 192
+nothing-filled = from-constant (record { event = noEvent }) 0 mostEvents
 
-pub refused-answer : (n : ℕ) {e : Event} → e ≡ noEvent → record { result = refused n; count = 0; places = replicate 192 (record { event = e }) } ≡ answerOf (refused n)
+pub refused-answer : (n : ℕ) {e : Event} → e ≡ noEvent → record {
+  result = refused n;
+  count = 0;
+  places = replicate mostEvents
+      (record { event = e });
+} ≡ answerOf (refused n)
 unfolding answerOf
 refused-answer n q = rw (q, nothing-filled)
 
@@ -47,11 +53,12 @@ from-map g i zero = refl
 from-map g i (suc m) = ap (_∷_ (g i)) (from-map g (suc i) m)
 
 -- the first places hold the list
-pub first-places : (es : List Event) (n : ℕ) → n ≡ length es → n ≤ 192 → take n (map eventIn (filled es)) ≡ es
+pub first-places : (es : List Event) (n : ℕ) → n ≡ length es → n ≤ mostEvents → take n (map eventIn (filled es)) ≡ es
 unfolding filled tabulate
 first-places es n e l =
-    ap (take n) (from-map g 0 192)
-    ∙ sym (tabulate-take g noEvent n (tabulate 192 g) (omega (arith, tabulate-length g 192)) (λ (k : ℕ) (h : k < n). sym (tabulate-at g noEvent 192 k (omega arith))))
+    ap (take n) (from-map g 0 mostEvents)
+    ∙ sym (tabulate-take g noEvent n (tabulate mostEvents g) (omega (arith, tabulate-length g mostEvents))
+    (λ (k : ℕ) (h : k < n). sym (tabulate-at g noEvent mostEvents k (omega arith))))
     ∙ tabulate-take g noEvent n es (omega arith) (λ (k : ℕ) (h : k < n). refl)
     ∙ take-all n es (omega arith)
   where
@@ -59,7 +66,8 @@ first-places es n e l =
     g k = getD es k noEvent
 
 by-reply :
-    (v : Reply) (rs : List (List Float)) (ws : List (List ℕ)) (count : ℕ) {o : Result (List Event)} {places : List Listed} → resultOf v (packed rs ws count) ≡ o → count ≡ length (valueOr o []) → places ≡ filled (packed rs ws count)
+    (v : Reply) (rs : List (List Float)) (ws : List (List ℕ)) (count : ℕ) {o : Result (List Event)} {places : List Place}
+    → resultOf v (packed rs ws count) ≡ o → count ≡ length (valueOr o []) → places ≡ filled (packed rs ws count)
     → record { result = resultOf v (packed rs ws count); count = count; places = places } ≡ answerOf o
 unfolding answerOf packed tabulate tabulateFrom
 by-reply Done rs ws count h e q = rw (← h, q, packed-length rs ws count)
@@ -68,8 +76,10 @@ by-reply (Refused x) rs ws count h e q =
     rw (← h, q, z)
 
 pub packed-answer :
-    (v : Reply) (rs : List (List Float)) (ws : List (List ℕ)) (count : ℕ) {o : Result (List Event)} {places : List Listed} → count ≤ 192 → resultOf v (packed rs ws count) ≡ o → count ≡ length (valueOr o []) → places ≡ filled (packed rs ws count)
+    (v : Reply) (rs : List (List Float)) (ws : List (List ℕ)) (count : ℕ) {o : Result (List Event)} {places : List Place}
+    → count ≤ mostEvents → resultOf v (packed rs ws count) ≡ o → count ≡ length (valueOr o []) → places ≡ filled (packed rs ws count)
     → record { result = resultOf v (take count (map eventIn places)); count = count; places = places } ≡ answerOf o
 packed-answer v rs ws count {o} {places} l h e q =
-    let f : take count (map eventIn places) ≡ packed rs ws count = ap (λ (ps : List Listed). take count (map eventIn ps)) q ∙ first-places (packed rs ws count) count (sym (packed-length rs ws count)) l in
+    let f : take count (map eventIn places) ≡ packed rs ws count = ap (λ (ps : List Place). take count (map eventIn ps)) q
+    ∙ first-places (packed rs ws count) count (sym (packed-length rs ws count)) l in
     rw f (by-reply v rs ws count h e q)

@@ -8,9 +8,10 @@ use lib.Seq.{take-all}
 use Rattle.matrix.specs.Matrix.{tabulate}
 use Rattle.events.proofs.Packing.{tabulate-take}
 use Rattle.fold_list.specs.Answers.{eventIn}
-use Rattle.fold_list.specs.declared.Listed.{Listed}
+use Rattle.fold_list.specs.declared.Place.{Place}
 
-pub all-events : (list : List Listed) (d : Listed) (m : ℕ) → m ≡ length list → tabulate m (λ (i : ℕ). eventIn (getD list i d)) ≡ map eventIn list
+pub all-events : (list : List Place) (d : Place) (m : ℕ) → m ≡ length list → tabulate m (λ (i : ℕ). eventIn (getD list i d)) ≡ map eventIn list
 all-events list d m e =
-    tabulate-take (λ (i : ℕ). eventIn (getD list i d)) (eventIn d) m (map eventIn list) (omega (arith, length-map list eventIn)) (λ (k : ℕ) (l : k < m). sym (List·getD-map eventIn list k d))
+    tabulate-take (λ (i : ℕ). eventIn (getD list i d)) (eventIn d) m (map eventIn list) (omega (arith, length-map list eventIn))
+    (λ (k : ℕ) (l : k < m). sym (List·getD-map eventIn list k d))
     ∙ take-all m (map eventIn list) (omega (arith, length-map list eventIn))

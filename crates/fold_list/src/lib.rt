@@ -1,19 +1,22 @@
 // The list of a cycle in an array of places, what is answered with it, and its events.
-use events::EVENTS;
+use events::Reals;
+use events::Words;
+use limits::EVENTS;
 use protocol::Event;
 use refusal::Refusal;
 use refusal::Reply;
 ghost use mathlib.Core.Path.{_≡_};
 ghost use Prim.Native.Nat.{_≤_};
 ghost use lib.ListN.{getD};
+ghost use Rattle.limits.specs.Limits.{mostEvents};
 ghost use Rattle.refusal.specs.Result.{refused};
 ghost use Rattle.refusal.specs.Numbers.{refusalNumber};
 ghost use Rattle.events.specs.Packed.{packed};
 ghost use Rattle.protocol.specs.Events.{noEvent};
-ghost use Rattle.fold_list.specs.Answers.{answerOf, told, filled, eventIn};
+ghost use Rattle.fold_list.specs.Answers.{answerOf, foldAnswer, filled, eventIn};
 ghost use mathlib.Core.List.{map};
 
-pub struct Listed {
+pub struct Place {
     pub event: Event,
 }
 
@@ -21,53 +24,44 @@ pub struct Listed {
 pub struct FoldedCycle {
     pub reply: Reply,
     pub count: usize,
-    pub events: [Listed; EVENTS],
+    pub events: [Place; EVENTS],
 }
 
 // The event at place i of a packed list, or what stands past its end.
-fn listed_at(
-    reals: &[[f64; 3]; EVENTS],
-    words: &[[usize; 4]; EVENTS],
-    count: usize,
-    i: usize,
-) -> Listed
-    requires { ⌜ count ≤ 192 ⌝ }
+fn place_at(reals: &Reals, words: &Words, count: usize, i: usize) -> Place
+    requires { ⌜ count ≤ mostEvents ⌝ }
     ensures { λ r. ⌜ r ≡ record { event = getD (packed (now (reals .entry)) (now (words .entry)) count) i noEvent } ⌝ }
 {
     if i < count {
-        return Listed {
+        return Place {
             event: events::event_at(reals, words, i),
         };
     }
-    Listed {
+    Place {
         event: events::no_event(),
     }
 }
 
 // A packed list in the first places, and behind it what stands past its end.
-pub fn list_of(
-    reals: &[[f64; 3]; EVENTS],
-    words: &[[usize; 4]; EVENTS],
-    count: usize,
-) -> [Listed; EVENTS]
-    requires { ⌜ count ≤ 192 ⌝ }
+pub fn list_of(reals: &Reals, words: &Words, count: usize) -> [Place; EVENTS]
+    requires { ⌜ count ≤ mostEvents ⌝ }
     ensures { λ r. ⌜ r ≡ filled (packed (now (reals .entry)) (now (words .entry)) count) ⌝ }
 {
-    let none = Listed {
+    let none = Place {
         event: events::no_event(),
     };
     let mut list = [none; EVENTS];
     for i in 0..EVENTS {
-        list[i] = listed_at(reals, words, count, i);
+        list[i] = place_at(reals, words, count, i);
     }
     list
 }
 
 // A refusal: no event, and what stands past the end of a list in every place.
 pub fn refused_cycle(refusal: Refusal) -> FoldedCycle
-    ensures { λ r. ⌜ told r ≡ answerOf (refused (refusalNumber refusal)) ⌝ }
+    ensures { λ r. ⌜ foldAnswer r ≡ answerOf (refused (refusalNumber refusal)) ⌝ }
 {
-    let none = Listed {
+    let none = Place {
         event: events::no_event(),
     };
     FoldedCycle {
@@ -78,7 +72,7 @@ pub fn refused_cycle(refusal: Refusal) -> FoldedCycle
 }
 
 // The events of a list.
-pub fn events_in(list: [Listed; EVENTS]) -> [Event; EVENTS]
+pub fn events_in(list: [Place; EVENTS]) -> [Event; EVENTS]
     ensures { λ r. ⌜ r ≡ map eventIn list ⌝ }
 {
     let none = events::no_event();

@@ -21,7 +21,8 @@ module _ (rs : List (List Float)) (ws : List (List ℕ)) (count : ℕ) where
     unfolding packed
     any-start = rw (left-start (eventAt rs ws) count)
 
-    pub any-more : {r : Bool} (k : ℕ) (found : Bool) {v : Bool} → k < count → v ≡ p (eventAt rs ws k) → found || anyFrom k ≡ r → (found || v) || anyFrom (k + 1) ≡ r
+    pub any-more : {r : Bool} (k : ℕ) (found : Bool) {v : Bool} → k < count → v ≡ p (eventAt rs ws k) → found || anyFrom k ≡ r
+        → (found || v) || anyFrom (k + 1) ≡ r
     any-more k found h e q = or-regroup found _ _ ∙ rw e (rw (left-more (eventAt rs ws) count k h) at q)
 
     pub any-done : {r : Bool} (k : ℕ) (found : Bool) → count ≤ k → found || anyFrom k ≡ r → found ≡ r
@@ -36,7 +37,9 @@ module _ (rs : List (List Float)) (ws : List (List ℕ)) (count : ℕ) where
     unfolding packed
     stop-start s = rw (left-start (eventAt rs ws) count)
 
-    pub stop-more : {z : Float} (k : ℕ) (s : Float) {x : Float} → k < count → x ≡ cond (stopping i (eventAt rs ws k)) (earlier t (nextTime p t (time (eventAt rs ws k))) s) s → stopFrom k s ≡ z → stopFrom (k + 1) x ≡ z
+    pub stop-more : {z : Float} (k : ℕ) (s : Float) {x : Float} → k < count
+        → x ≡ cond (stopping i (eventAt rs ws k)) (earlier t (nextTime p t (time (eventAt rs ws k))) s) s → stopFrom k s ≡ z
+        → stopFrom (k + 1) x ≡ z
     unfolding stopOf
     stop-more k s h e q = rw e (rw (left-more (eventAt rs ws) count k h) at q)
 

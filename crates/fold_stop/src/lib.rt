@@ -1,10 +1,12 @@
 // The reply of a fold, whether an infusion of a cycle passes, and its earliest stop among the resets of a list.
 // The list so far stands packed in the first `at` places of two arrays, and what a fold gives goes behind it.
-use events::EVENTS;
+use events::Reals;
+use events::Words;
 use protocol::Event;
 use refusal::Refusal;
 use refusal::Reply;
 ghost use mathlib.Core.Path.{_≡_};
+ghost use Rattle.limits.specs.Limits.{mostEvents};
 ghost use Rattle.cycle.specs.Fold.{infusionPasses, stopping as stoppingOf, nextTime, earlier as earlierOf, stopOf};
 ghost use mathlib.Core.Bool.{cond};
 ghost use Prim.Native.Nat.{_≤_};
@@ -41,23 +43,12 @@ pub fn stopping(target: usize, event: Event) -> bool
     ensures { λ r. ⌜ r ≡ stoppingOf target event ⌝ }
 {
     match event {
-        Event::Bolus {
-            time: _,
-            target: _,
-            amount: _,
-        } => false,
-        Event::Infusion {
-            time: _,
-            target: _,
-            amount: _,
-            duration: _,
-        } => false,
+        Event::Bolus { .. } => false,
+        Event::Infusion { .. } => false,
         Event::Reset {
-            time: _,
             target: j,
-            value: _,
-            order: _,
             stops,
+            ..
         } => stops & (target == j),
     }
 }
@@ -81,13 +72,8 @@ pub fn earlier(time: f64, next: f64, stop: f64) -> f64
 }
 
 // Whether the list has a stopping reset on the target.
-pub fn has_stop(
-    target: usize,
-    reals: &[[f64; 3]; EVENTS],
-    words: &[[usize; 4]; EVENTS],
-    count: usize,
-) -> bool
-    requires { ⌜ count ≤ 192 ⌝ }
+pub fn has_stop(target: usize, reals: &Reals, words: &Words, count: usize) -> bool
+    requires { ⌜ count ≤ mostEvents ⌝ }
     ensures { λ r. ⌜ r ≡ any (stoppingOf target) (packed (now (reals .entry)) (now (words .entry)) count) ⌝ }
 {
     let mut found = false;
@@ -113,11 +99,11 @@ pub fn stop_of(
     time: f64,
     target: usize,
     until: f64,
-    reals: &[[f64; 3]; EVENTS],
-    words: &[[usize; 4]; EVENTS],
+    reals: &Reals,
+    words: &Words,
     count: usize,
 ) -> f64
-    requires { ⌜ count ≤ 192 ⌝ }
+    requires { ⌜ count ≤ mostEvents ⌝ }
     ensures { λ r. ⌜ r ≡ stopOf period time target until (packed (now (reals .entry)) (now (words .entry)) count) ⌝ }
 {
     let mut stop = until;

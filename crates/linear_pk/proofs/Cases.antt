@@ -8,13 +8,14 @@ use borrow.Author.Tests.{lt-ltb, le-leb, lt-leb}
 use lib.Dec.{eqb, leb}
 use lib.ListN.{length}
 use lib.Ieee.{Float}
+use Rattle.limits.specs.Limits.{states, mostVolumes}
 use Rattle.binary64.specs.Doubles.{nonnegative}
 use Rattle.binary64.specs.Lists.{amountsPass}
 use Rattle.refusal.specs.Result.{refused, done, andThen, unless}
 use Rattle.matrix.specs.Exponential.{Scheme}
-use Rattle.linear_pk_interval.specs.Interval.{states, interval}
+use Rattle.linear_pk_interval.specs.Interval.{interval}
 use Rattle.linear_pk_values.specs.Concentrations.{concentrations as concentrationsOf}
-use Rattle.linear_pk.specs.LinearPk.{stateCount, sound, advance, concentrations, bind, passes, valuesPass, kernelOf, ratesFinite, new, padded, mostCompartments}
+use Rattle.linear_pk.specs.LinearPk.{stateCount, sound, advance, concentrations, bind, passes, parametersPass, kernelOf, matrixFinite, new, padded}
 use Rattle.linear_pk.specs.declared.kernel.LinearPk.{LinearPk}
 use Rattle.linear_pk_values.specs.declared.Absorption.{Absorption}
 
@@ -26,7 +27,7 @@ module _ (s : Scheme) (k : LinearPk) (x r : List Float) (d : Float) where
 
   pub advance-sound :
       (room : ℕ) {b : Bool} {j : LinearPk} → sound k ≡ done j → b ≡ amountsPass (stateCount k) x && (amountsPass (stateCount k) r && nonnegative d)
-      → advance s k x r d room ≡ andThen (unless b 3 x) (λ _. andThen (unless (leb (stateCount k) room) 4 x) (λ _. interval s (stateCount k) (k .rates) x r d))
+      → advance s k x r d room ≡ andThen (unless b 3 x) (λ _. andThen (unless (leb (stateCount k) room) 4 x) (λ _. interval s (stateCount k) (k .matrix) x r d))
   unfolding advance
   advance-sound room h e = rw (h, ← e)
 
@@ -55,7 +56,7 @@ module _ (cl : Float) (vs qs : List Float) (a : Absorption) where
   unfolding new
   new-refused h = rw h
 
-  pub new-made : {b : Bool} {k : LinearPk} → passes cl vs qs a ≡ true → k ≡ kernelOf cl vs qs a → b ≡ ratesFinite k → new cl vs qs a ≡ unless b 2 k
+  pub new-made : {b : Bool} {k : LinearPk} → passes cl vs qs a ≡ true → k ≡ kernelOf cl vs qs a → b ≡ matrixFinite k → new cl vs qs a ≡ unless b 2 k
   unfolding new
   new-made h e f = rw (h, ← e, ← f)
 
@@ -63,11 +64,11 @@ module _ (cl : Float) (vs qs : List Float) (a : Absorption) where
   unfolding passes
   passes-none h = rw h
 
-  pub passes-many : mostCompartments < length vs → passes cl vs qs a ≡ false
+  pub passes-many : mostVolumes < length vs → passes cl vs qs a ≡ false
   unfolding passes
-  passes-many h = rw (lt-ltb 0 (length vs) (omega arith), lt-leb (length vs) mostCompartments h)
+  passes-many h = rw (lt-ltb 0 (length vs) (omega arith), lt-leb (length vs) mostVolumes h)
 
   pub passes-by :
-      {b : Bool} → (length vs ≡ 0 → ⊥) → length vs ≤ mostCompartments → b ≡ eqb (length qs) (length vs - 1) && valuesPass cl vs qs a → passes cl vs qs a ≡ b
+      {b : Bool} → (length vs ≡ 0 → ⊥) → length vs ≤ mostVolumes → b ≡ eqb (length qs) (length vs - 1) && parametersPass cl vs qs a → passes cl vs qs a ≡ b
   unfolding passes
-  passes-by n h e = rw (lt-ltb 0 (length vs) (omega arith), le-leb (length vs) mostCompartments h) (sym e)
+  passes-by n h e = rw (lt-ltb 0 (length vs) (omega arith), le-leb (length vs) mostVolumes h) (sym e)

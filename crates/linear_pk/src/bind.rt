@@ -1,7 +1,7 @@
 // Initial amounts bound to a kernel.
 use crate::kernel;
 use crate::kernel::LinearPk;
-use matrix::STATES;
+use limits::STATES;
 use refusal::Refusal;
 use refusal::Reply;
 ghost use mathlib.Core.Path.{_≡_};

@@ -5,14 +5,15 @@ use refusal::Reply;
 ghost use mathlib.Core.Path.{_≡_};
 ghost use lib.ListN.{length};
 ghost use Rattle.refusal.specs.Numbers.{replyNumber};
-ghost use Rattle.refusal.specs.Result.{number, laid};
+ghost use Rattle.refusal.specs.Result.{number, sliceAtExit};
 ghost use Rattle.linear_pk.specs.LinearPk.{concentrations as concentrationsOf};
 
 impl LinearPk {
     // The concentrations of central and the peripherals, into the first cells of result.
     pub fn concentrations(self, amounts: &[f64], result: &mut [f64]) -> Reply
         ensures { λ r. ⌜ replyNumber r ≡ number (concentrationsOf self (now (amounts .entry)) (length (now (result .entry)))) ⌝ }
-        ensures { λ r. ⌜ now (result .exit) ≡ laid (concentrationsOf self (now (amounts .entry)) (length (now (result .entry)))) (now (result .entry)) ⌝ }
+        ensures { λ r. ⌜ now (result .exit) ≡ sliceAtExit (concentrationsOf self (now (amounts .entry)) (length (now (result .entry))))
+            (now (result .entry)) ⌝ }
     {
         let sound = kernel::check(self);
         match sound {

@@ -1,16 +1,17 @@
 // The kernel: a matrix of rates, the volumes, and whether there is a depot.
 use binary64::Test;
-use linear_pk_mammillary::VOLUMES;
-use linear_pk_propagator::CELLS;
+use limits::RATE_CELLS;
+use limits::VOLUMES;
 use linear_pk_values::Absorption;
 use refusal::Refusal;
 use refusal::Reply;
 ghost use mathlib.Core.Path.{_≡_};
 ghost use Prim.Native.Nat.{_+_, _≤_};
 ghost use lib.ListN.{length, take};
+ghost use Rattle.limits.specs.Limits.{states, mostVolumes};
 ghost use Rattle.binary64.specs.Doubles.{positive};
 ghost use Rattle.binary64.specs.Lists.{all};
-ghost use Rattle.linear_pk.specs.LinearPk.{stateCount, volumesPass, ratesFinite, sound, kernelOf, noKernel, new as newOf};
+ghost use Rattle.linear_pk.specs.LinearPk.{stateCount, volumesPass, matrixFinite, sound, kernelOf, noKernel, new as newOf};
 ghost use Rattle.refusal.specs.Result.{valueOr};
 ghost use Rattle.refusal.specs.Numbers.{resultOf};
 
@@ -19,13 +20,13 @@ pub struct LinearPk {
     pub compartments: usize,
     pub depot: bool,
     pub volumes: [f64; VOLUMES],
-    pub rates: [f64; CELLS],
+    pub matrix: [f64; RATE_CELLS],
 }
 
 impl LinearPk {
     // How many states there are; 0 where there are not 1 to 3 volumes.
     pub fn state_count(self) -> usize
-        ensures { λ r. ⌜ (r ≡ stateCount self) × (r ≤ 4) ⌝ }
+        ensures { λ r. ⌜ (r ≡ stateCount self) × (r ≤ states) ⌝ }
     {
         let count = self.compartments;
         if count == 0 {
@@ -38,16 +39,16 @@ impl LinearPk {
     }
 }
 
-fn rates_finite(kernel: LinearPk) -> bool
-    ensures { λ r. ⌜ r ≡ ratesFinite kernel ⌝ }
+fn matrix_finite(kernel: LinearPk) -> bool
+    ensures { λ r. ⌜ r ≡ matrixFinite kernel ⌝ }
 {
-    let rates = kernel.rates;
-    linear_pk_mammillary::rates_finite(rates, kernel.state_count())
+    let matrix = kernel.matrix;
+    linear_pk_mammillary::matrix_finite(matrix, kernel.state_count())
 }
 
 // Whether the first count volumes are finite and above 0.
 fn all_positive(volumes: [f64; VOLUMES], count: usize) -> bool
-    requires { ⌜ count ≤ 3 ⌝ }
+    requires { ⌜ count ≤ mostVolumes ⌝ }
     ensures { λ r. ⌜ r ≡ all positive (take count volumes) ⌝ }
 {
     binary64::all_pass(Test::Positive, &volumes[..count])
@@ -71,7 +72,7 @@ pub fn check(kernel: LinearPk) -> Reply
     if !volumes_pass(kernel) {
         return Reply::Refused(Refusal::Parameters);
     }
-    if !rates_finite(kernel) {
+    if !matrix_finite(kernel) {
         return Reply::Refused(Refusal::RateNotFinite);
     }
     Reply::Done
@@ -88,12 +89,12 @@ pub fn none() -> LinearPk
     ensures { λ r. ⌜ r ≡ noKernel ⌝ }
 {
     let volumes = [0.0f64; VOLUMES];
-    let rates = [0.0f64; CELLS];
+    let matrix = [0.0f64; RATE_CELLS];
     LinearPk {
         compartments: 0,
         depot: false,
         volumes,
-        rates,
+        matrix,
     }
 }
 
@@ -109,13 +110,13 @@ fn not_made(refusal: Refusal) -> Made
 
 // The kernel of parameters whose counts fit.
 fn kernel_of(clearance: f64, volumes: &[f64], exchange: &[f64], absorption: Absorption) -> LinearPk
-    requires { ⌜ (length (now exchange) + 1 ≡ length (now volumes)) × (length (now volumes) ≤ 3) ⌝ }
+    requires { ⌜ (length (now exchange) + 1 ≡ length (now volumes)) × (length (now volumes) ≤ mostVolumes) ⌝ }
     ensures { λ r. ⌜ r ≡ kernelOf clearance (now (volumes .entry)) (now (exchange .entry)) absorption ⌝ }
 {
     let count = volumes.len();
     let depot = linear_pk_values::has_depot(absorption);
     let n = count + linear_pk_mammillary::central(depot);
-    let cells = linear_pk_mammillary::rates(
+    let cells = linear_pk_mammillary::matrix(
         clearance,
         volumes,
         exchange,
@@ -128,7 +129,7 @@ fn kernel_of(clearance: f64, volumes: &[f64], exchange: &[f64], absorption: Abso
         compartments: count,
         depot,
         volumes: list,
-        rates: cells,
+        matrix: cells,
     }
 }
 
@@ -152,7 +153,7 @@ impl LinearPk {
             return not_made(Refusal::Parameters);
         }
         let kernel = kernel_of(clearance, volumes, exchange, absorption);
-        if !rates_finite(kernel) {
+        if !matrix_finite(kernel) {
             return not_made(Refusal::RateNotFinite);
         }
         Made {

@@ -18,7 +18,8 @@ module _ {A : Type 0} (xs old : List A) where
   pub laying-start : Laying xs old old 0
   laying-start = record { below = omega arith; same = refl; laid = refl }
 
-  pub laying-more : (z : A) {out : List A} (i : ℕ) → length xs ≤ length old → Laying xs old out i → i < length xs → Laying xs old (set out i (getD xs i z)) (i + 1)
+  pub laying-more : (z : A) {out : List A} (i : ℕ) → length xs ≤ length old → Laying xs old out i → i < length xs
+      → Laying xs old (set out i (getD xs i z)) (i + 1)
   laying-more z {out} i room h l = record {
     below = omega arith;
     same = length-set out i (getD xs i z) ∙ h .same;

@@ -10,13 +10,13 @@ use Rattle.matrix.specs.Matrix.{Matrix, cell, tabulate, allTo}
 use Rattle.binary64.specs.Lists.{all}
 use Rattle.refusal.specs.Result.{Result, done, andThen, unless}
 use Rattle.matrix.specs.Exponential.{Scheme}
-pub use Rattle.linear_pk_propagator.specs.Propagator.{states, entry}
+pub use Rattle.linear_pk_propagator.specs.Propagator.{entry}
 unfoldable pub use Rattle.linear_pk_propagator.specs.Propagator.{blockCell, propagator}
 unfoldable pub use Rattle.linear_pk_propagator.specs.Amounts.{amountTo}
 
 -- 22 where a rate·duration is not finite, or an amount is not finite or below 0
-unfoldable pub applied : ℕ → Matrix → List Float → List Float → Float → Result (List Float)
-applied n p x r d =
+unfoldable pub propagated : ℕ → Matrix → List Float → List Float → Float → Result (List Float)
+propagated n p x r d =
     andThen (unless (allTo (λ j. finite (mul binary64 (cell r j) d)) n) 22 (tabulate n (λ i. amountTo p n x r d i n)))
     (λ y. unless (all nonnegative y) 22 y)
 
@@ -27,4 +27,4 @@ over false x r = r
 
 -- the amounts x of n states after a duration d, at the rates k and the input rates r
 unfoldable pub interval : Scheme → ℕ → List Float → List Float → List Float → Float → Result (List Float)
-interval s n k x r d = over (eq d plusZero) x (andThen (propagator s n k d) (λ e. applied n (e .matrix) x r d))
+interval s n k x r d = over (eq d plusZero) x (andThen (propagator s n k d) (λ e. propagated n (e .matrix) x r d))

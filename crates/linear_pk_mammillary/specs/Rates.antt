@@ -6,20 +6,20 @@ use Prim.Native.Nat.{ℕ, zero, suc, _-_, _/_, _%_}
 use lib.Dec.{eqb, ltb}
 use lib.ListN.{length}
 use lib.Ieee.{Float, binary64, sub, div, neg}
+use Rattle.limits.specs.Limits.{states}
 use Rattle.binary64.specs.Doubles.{plusZero}
 use Rattle.matrix.specs.Matrix.{cell, tabulate}
-use Rattle.linear_pk_interval.specs.Interval.{states}
 
--- the place of the central state: behind the depot, if there is one
-abbrev pub place : Bool → ℕ
-place depot = cond depot 1 0
+-- the central of the central state: behind the depot, if there is one
+abbrev pub central : Bool → ℕ
+central depot = cond depot 1 0
 
 -- −CL/V0, then minus q/V0 for each of the first k exchanges in turn
 unfoldable pub diagonalTo : Float → List Float → List Float → ℕ → Float
 diagonalTo cl vs qs zero = div binary64 (neg cl) (cell vs 0)
 diagonalTo cl vs qs (suc e) = sub binary64 (diagonalTo cl vs qs e) (div binary64 (cell qs e) (cell vs 0))
 
--- to central, at place c, from the compartment j: its own diagonal, or q/Vj of a peripheral
+-- to central, at central c, from the compartment j: its own diagonal, or q/Vj of a peripheral
 abbrev pub centralRate : Float → List Float → List Float → ℕ → ℕ → Float
 centralRate cl vs qs c j = cond (eqb j c) (diagonalTo cl vs qs (length qs)) (div binary64 (cell qs (j - c - 1)) (cell vs (j - c)))
 
@@ -30,10 +30,10 @@ peripheralRate vs qs c i j =
     (cond (eqb j i) (div binary64 (neg (cell qs (i - c - 1))) (cell vs (i - c))) plusZero)
 
 -- the rate to state i from state j; the depot gives k to central
-unfoldable pub rateOf : Float → List Float → List Float → Bool → Float → ℕ → ℕ → Float
+unfoldable pub mammillaryRate : Float → List Float → List Float → Bool → Float → ℕ → ℕ → Float
 unfolding diagonalTo
-rateOf cl vs qs depot k i j =
-    let c = place depot in
+mammillaryRate cl vs qs depot k i j =
+    let c = central depot in
     cond (ltb i c) (cond (ltb j c) (neg k) plusZero)
     (cond (eqb i c) (cond (ltb j c) k (centralRate cl vs qs c j)) (peripheralRate vs qs c i j))
 
@@ -45,6 +45,6 @@ paddedCell xs i = cond (ltb i (length xs)) (cell xs i) plusZero
 unfoldable pub padded : ℕ → List Float → List Float
 padded w xs = tabulate w (paddedCell xs)
 
--- the rate at place c of the cells, in a matrix of n states
+-- the rate at central c of the cells, in a matrix of n states
 abbrev pub paddedRate : Float → List Float → List Float → Bool → Float → ℕ → ℕ → Float
-paddedRate cl vs qs depot k n c = cond (ltb (c / states) n && ltb (c % states) n) (rateOf cl vs qs depot k (c / states) (c % states)) plusZero
+paddedRate cl vs qs depot k n c = cond (ltb (c / states) n && ltb (c % states) n) (mammillaryRate cl vs qs depot k (c / states) (c % states)) plusZero

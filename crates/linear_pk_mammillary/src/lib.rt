@@ -1,20 +1,19 @@
 // The matrix of rates of a mammillary model: central, up to two peripherals, an optional depot.
-use linear_pk_propagator::CELLS;
-use matrix::STATES;
+use limits::RATE_CELLS;
+use limits::STATES;
+use limits::VOLUMES;
 ghost use mathlib.Core.Path.{_≡_};
 ghost use Prim.Native.Nat.{_+_, _≤_, _<_};
 ghost use lib.ListN.{length};
 ghost use lib.Ieee.Scale.{finite};
+ghost use Rattle.limits.specs.Limits.{states, rateCells};
 ghost use Rattle.matrix.specs.Matrix.{tabulate, allTo};
 ghost use Rattle.linear_pk_interval.specs.Interval.{entry};
-ghost use Rattle.linear_pk_mammillary.specs.Rates.{place, diagonalTo, centralRate, peripheralRate, rateOf, paddedRate, paddedCell, padded};
-
-// Volumes that a model can have.
-pub const VOLUMES: usize = STATES - 1;
+ghost use Rattle.linear_pk_mammillary.specs.Rates.{central, diagonalTo, centralRate, peripheralRate, mammillaryRate, paddedRate, paddedCell, padded};
 
 // The place of the central state.
 pub fn central(depot: bool) -> usize
-    ensures { λ r. ⌜ (r ≡ place depot) × (r ≤ 1) ⌝ }
+    ensures { λ r. ⌜ (r ≡ central depot) × (r ≤ 1) ⌝ }
 {
     if depot { 1 } else { 0 }
 }
@@ -73,8 +72,9 @@ fn rate(
     i: usize,
     j: usize,
 ) -> f64
-    requires { ⌜ (length (now exchange) + 1 ≡ length (now volumes)) × (i < length (now volumes) + place depot) × (j < length (now volumes) + place depot) ⌝ }
-    ensures { λ r. ⌜ r ≡ rateOf clearance (now (volumes .entry)) (now (exchange .entry)) depot absorption i j ⌝ }
+    requires { ⌜ (length (now exchange) + 1 ≡ length (now volumes)) × (i < length (now volumes) + central depot)
+        × (j < length (now volumes) + central depot) ⌝ }
+    ensures { λ r. ⌜ r ≡ mammillaryRate clearance (now (volumes .entry)) (now (exchange .entry)) depot absorption i j ⌝ }
 {
     let c = central(depot);
     if i < c {
@@ -102,7 +102,7 @@ fn padded_rate(
     n: usize,
     c: usize,
 ) -> f64
-    requires { ⌜ (length (now exchange) + 1 ≡ length (now volumes)) × (n ≡ length (now volumes) + place depot) ⌝ }
+    requires { ⌜ (length (now exchange) + 1 ≡ length (now volumes)) × (n ≡ length (now volumes) + central depot) ⌝ }
     ensures { λ r. ⌜ r ≡ paddedRate clearance (now (volumes .entry)) (now (exchange .entry)) depot absorption n c ⌝ }
 {
     let i = c / STATES;
@@ -115,19 +115,19 @@ fn padded_rate(
     0.0
 }
 
-pub fn rates(
+pub fn matrix(
     clearance: f64,
     volumes: &[f64],
     exchange: &[f64],
     depot: bool,
     absorption: f64,
     n: usize,
-) -> [f64; CELLS]
-    requires { ⌜ (length (now exchange) + 1 ≡ length (now volumes)) × (n ≡ length (now volumes) + place depot) ⌝ }
-    ensures { λ r. ⌜ r ≡ tabulate 16 (paddedRate clearance (now (volumes .entry)) (now (exchange .entry)) depot absorption n) ⌝ }
+) -> [f64; RATE_CELLS]
+    requires { ⌜ (length (now exchange) + 1 ≡ length (now volumes)) × (n ≡ length (now volumes) + central depot) ⌝ }
+    ensures { λ r. ⌜ r ≡ tabulate rateCells (paddedRate clearance (now (volumes .entry)) (now (exchange .entry)) depot absorption n) ⌝ }
 {
-    let mut list = [0.0f64; CELLS];
-    for c in 0..CELLS {
+    let mut list = [0.0f64; RATE_CELLS];
+    for c in 0..RATE_CELLS {
         list[c] = padded_rate(clearance, volumes, exchange, depot, absorption, n, c);
     }
     list
@@ -150,25 +150,25 @@ pub fn padded_volumes(volumes: &[f64]) -> [f64; VOLUMES]
     list
 }
 
-fn row_finite(rates: [f64; CELLS], n: usize, i: usize) -> bool
-    requires { ⌜ (i < 4) × (n ≤ 4) ⌝ }
-    ensures { λ r. ⌜ r ≡ allTo (λ j. finite (entry rates i j)) n ⌝ }
+fn row_finite(matrix: [f64; RATE_CELLS], n: usize, i: usize) -> bool
+    requires { ⌜ (i < states) × (n ≤ states) ⌝ }
+    ensures { λ r. ⌜ r ≡ allTo (λ j. finite (entry matrix i j)) n ⌝ }
 {
     let mut ok = true;
     for j in 0..n {
-        ok = ok & binary64::is_finite(linear_pk_propagator::entry(rates, i, j));
+        ok = ok & binary64::is_finite(linear_pk_propagator::entry(matrix, i, j));
     }
     ok
 }
 
 // Whether the rates of n states are finite.
-pub fn rates_finite(rates: [f64; CELLS], n: usize) -> bool
-    requires { ⌜ n ≤ 4 ⌝ }
-    ensures { λ r. ⌜ r ≡ allTo (λ i. allTo (λ j. finite (entry rates i j)) n) n ⌝ }
+pub fn matrix_finite(matrix: [f64; RATE_CELLS], n: usize) -> bool
+    requires { ⌜ n ≤ states ⌝ }
+    ensures { λ r. ⌜ r ≡ allTo (λ i. allTo (λ j. finite (entry matrix i j)) n) n ⌝ }
 {
     let mut ok = true;
     for i in 0..n {
-        ok = ok & row_finite(rates, n, i);
+        ok = ok & row_finite(matrix, n, i);
     }
     ok
 }

@@ -5,14 +5,11 @@ use mathlib.Core.List.{List}
 use Prim.Native.Nat.{ℕ, _+_, _-_, _*_}
 use lib.Dec.{eqb, ltb}
 use lib.Ieee.{Float, binary64, mul}
+use Rattle.limits.specs.Limits.{states}
 use Rattle.binary64.specs.Doubles.{plusZero, one}
 use Rattle.matrix.specs.Matrix.{cell, table}
 use Rattle.refusal.specs.Result.{Result}
 use Rattle.matrix.specs.Exponential.{Scheme, Exponential, exponential}
-
--- the most states: the width of a matrix of rates
-abbrev pub states : ℕ
-states = 4
 
 -- the rate to state i from state j
 abbrev pub entry : List Float → ℕ → ℕ → Float

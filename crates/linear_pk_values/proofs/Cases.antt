@@ -18,7 +18,8 @@ module _ (n v : ℕ) (depot : Bool) (vs x : List Float) where
   unfolding concentrations
   concentrations-are room {b} {c} {y} e f g = rw (← e, ← f) (on b (leb v room))
     where
-      on : (b l : Bool) → andThen (unless b 3 x) (λ _. andThen (unless l 4 y) (λ y. unless (all finite y) 23 y)) ≡ andThen (unless b 3 x) (λ _. andThen (unless l 4 y) (λ _. unless c 23 y))
+      on : (b l : Bool) → andThen (unless b 3 x) (λ _. andThen (unless l 4 y) (λ y. unless (all finite y) 23 y))
+          ≡ andThen (unless b 3 x) (λ _. andThen (unless l 4 y) (λ _. unless c 23 y))
       on false l = refl
       on true false = refl
       on true true = rw g

@@ -8,11 +8,11 @@ use lib.Ieee.Scale.{finite}
 use Rattle.matrix.specs.Matrix.{cell, tabulate}
 use Rattle.binary64.specs.Lists.{all, amountsPass}
 use Rattle.refusal.specs.Result.{Result, andThen, unless}
-use Rattle.linear_pk_mammillary.specs.Rates.{place}
+use Rattle.linear_pk_mammillary.specs.Rates.{central}
 
 -- of compartment i, by the volumes vs, from the amounts x
 abbrev pub concentration : Bool → List Float → List Float → ℕ → Float
-concentration depot vs x i = div binary64 (cell x (i + place depot)) (cell vs i)
+concentration depot vs x i = div binary64 (cell x (i + central depot)) (cell vs i)
 
 -- of v compartments in n states, for a slice of `room` cells
 unfoldable pub concentrations : ℕ → ℕ → Bool → List Float → List Float → ℕ → Result (List Float)

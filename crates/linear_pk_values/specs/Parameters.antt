@@ -18,5 +18,5 @@ absorbed Absent = plusZero
 absorbed (FirstOrder k) = k
 
 -- clearance finite, ≥ 0; volumes finite, above 0; exchanges finite, ≥ 0; absorption absent, or finite and ≥ 0
-unfoldable pub valuesPass : Float → List Float → List Float → Absorption → Bool
-valuesPass cl vs qs a = nonnegative cl && (all positive vs && (all nonnegative qs && nonnegative (absorbed a)))
+unfoldable pub parametersPass : Float → List Float → List Float → Absorption → Bool
+parametersPass cl vs qs a = nonnegative cl && (all positive vs && (all nonnegative qs && nonnegative (absorbed a)))

@@ -1,17 +1,18 @@
 // What a kernel is made of and bound to: the absorption, values that pass, amounts with +0 past them; amounts by volume.
 use binary64::Test;
-use linear_pk_mammillary::VOLUMES;
-use matrix::STATES;
+use limits::STATES;
+use limits::VOLUMES;
 use refusal::Refusal;
 use refusal::Reply;
 ghost use mathlib.Core.Path.{_≡_};
-ghost use Rattle.linear_pk_mammillary.specs.Rates.{padded, place};
-ghost use Rattle.linear_pk_values.specs.Parameters.{absorbed as absorbedOf, depotOf, valuesPass};
+ghost use Rattle.limits.specs.Limits.{states, mostVolumes};
+ghost use Rattle.linear_pk_mammillary.specs.Rates.{padded, central};
+ghost use Rattle.linear_pk_values.specs.Parameters.{absorbed as absorbedOf, depotOf, parametersPass};
 ghost use Prim.Native.Nat.{_≤_, _<_, _+_};
 ghost use lib.ListN.{length, take};
 ghost use Rattle.matrix.specs.Matrix.{tabulate};
 ghost use Rattle.refusal.specs.Numbers.{replyNumber};
-ghost use Rattle.refusal.specs.Result.{number, laid};
+ghost use Rattle.refusal.specs.Result.{number, sliceAtExit};
 ghost use Rattle.linear_pk_values.specs.Concentrations.{concentration as concentrationOf, concentrations as concentrationsOf};
 
 // First-order absorption from a depot, or none.
@@ -46,7 +47,7 @@ pub fn values_pass(
     exchange: &[f64],
     absorption: Absorption,
 ) -> bool
-    ensures { λ r. ⌜ r ≡ valuesPass clearance (now (volumes .entry)) (now (exchange .entry)) absorption ⌝ }
+    ensures { λ r. ⌜ r ≡ parametersPass clearance (now (volumes .entry)) (now (exchange .entry)) absorption ⌝ }
 {
     binary64::is_nonnegative(clearance)
         & (binary64::all_pass(Test::Positive, volumes)
@@ -55,7 +56,7 @@ pub fn values_pass(
 }
 
 pub fn padded_amounts(amounts: &[f64]) -> [f64; STATES]
-    ensures { λ r. ⌜ r ≡ padded 4 (now (amounts .entry)) ⌝ }
+    ensures { λ r. ⌜ r ≡ padded states (now (amounts .entry)) ⌝ }
 {
     let mut list = [0.0f64; STATES];
     for i in 0..STATES {
@@ -66,7 +67,7 @@ pub fn padded_amounts(amounts: &[f64]) -> [f64; STATES]
 
 // The concentration of compartment i: the depot is skipped.
 fn concentration(depot: bool, volumes: [f64; VOLUMES], amounts: &[f64], i: usize) -> f64
-    requires { ⌜ (i < 3) × (i + place depot < length (now amounts)) ⌝ }
+    requires { ⌜ (i < mostVolumes) × (i + central depot < length (now amounts)) ⌝ }
     ensures { λ r. ⌜ r ≡ concentrationOf depot volumes (now (amounts .entry)) i ⌝ }
 {
     if depot {
@@ -77,8 +78,13 @@ fn concentration(depot: bool, volumes: [f64; VOLUMES], amounts: &[f64], i: usize
 }
 
 // The concentrations of the first compartments, from place 0.
-fn listed(depot: bool, volumes: [f64; VOLUMES], amounts: &[f64], count: usize) -> [f64; VOLUMES]
-    requires { ⌜ (count ≤ 3) × (count + place depot ≤ length (now amounts)) ⌝ }
+fn concentration_list(
+    depot: bool,
+    volumes: [f64; VOLUMES],
+    amounts: &[f64],
+    count: usize,
+) -> [f64; VOLUMES]
+    requires { ⌜ (count ≤ mostVolumes) × (count + central depot ≤ length (now amounts)) ⌝ }
     ensures { λ r. ⌜ take count r ≡ tabulate count (concentrationOf depot volumes (now (amounts .entry))) ⌝ }
 {
     let mut list = [0.0f64; VOLUMES];
@@ -97,9 +103,10 @@ pub fn concentrations(
     amounts: &[f64],
     result: &mut [f64],
 ) -> Reply
-    requires { ⌜ (count ≤ 3) × (n ≡ count + place depot) ⌝ }
+    requires { ⌜ (count ≤ mostVolumes) × (n ≡ count + central depot) ⌝ }
     ensures { λ r. ⌜ replyNumber r ≡ number (concentrationsOf n count depot volumes (now (amounts .entry)) (length (now (result .entry)))) ⌝ }
-    ensures { λ r. ⌜ now (result .exit) ≡ laid (concentrationsOf n count depot volumes (now (amounts .entry)) (length (now (result .entry)))) (now (result .entry)) ⌝ }
+    ensures { λ r. ⌜ now (result .exit) ≡ sliceAtExit (concentrationsOf n count depot volumes (now (amounts .entry))
+        (length (now (result .entry)))) (now (result .entry)) ⌝ }
 {
     if !binary64::amounts_pass(n, amounts) {
         return Reply::Refused(Refusal::Argument);
@@ -107,7 +114,7 @@ pub fn concentrations(
     if result.len() < count {
         return Reply::Refused(Refusal::ShortSlice);
     }
-    let list = listed(depot, volumes, amounts, count);
+    let list = concentration_list(depot, volumes, amounts, count);
     let values = &list[..count];
     if !binary64::all_pass(Test::Finite, values) {
         return Reply::Refused(Refusal::ConcentrationNotFinite);

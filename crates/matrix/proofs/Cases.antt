@@ -9,7 +9,7 @@ use Rattle.binary64.specs.Doubles.{magnitude, larger}
 use Rattle.matrix.specs.Matrix.{Matrix}
 use Rattle.matrix.specs.Arrays.{lead, Holds}
 use Rattle.refusal.specs.Result.{refused, done, unless}
-use Rattle.matrix.specs.Exponential.{Scheme, rowSum, normTo, countOf, taylor, allFinite, exponential}
+use Rattle.matrix.specs.Exponential.{Scheme, rowSum, normTo, halvingCount, taylor, allFinite, exponential}
 use Rattle.matrix.proofs.Rows.{sum-cong, all-cong, lead-at}
 
 -- ---- what is read of an array is its leading part
@@ -24,12 +24,13 @@ finite-lead m a = all-cong m (λ i p. all-cong m (λ j q. ap finite (sym (lead-a
 
 -- ---- the exponential
 module _ (s : Scheme) (m : ℕ) (a : Matrix) where
-  pub exponential-refused : {x : Float} {n : ℕ} → x ≡ normTo a m m → countOf (s .threshold) (s .most) x ≡ refused n → exponential s m (lead m a) ≡ refused n
+  pub exponential-refused : {x : Float} {n : ℕ} → x ≡ normTo a m m → halvingCount (s .threshold) (s .most) x ≡ refused n
+      → exponential s m (lead m a) ≡ refused n
   unfolding exponential
   exponential-refused e h = rw (← norm-lead m a m (omega arith), ← e, h)
 
   pub exponential-at :
-      {x : Float} {c : ℕ} {p : Matrix} {b : Bool} → x ≡ normTo a m m → countOf (s .threshold) (s .most) x ≡ done c
+      {x : Float} {c : ℕ} {p : Matrix} {b : Bool} → x ≡ normTo a m m → halvingCount (s .threshold) (s .most) x ≡ done c
       → Holds m p (taylor s m c (lead m a)) → b ≡ allFinite m p
       → exponential s m (lead m a) ≡ unless b 22 (record { halved = c; matrix = lead m p })
   unfolding exponential

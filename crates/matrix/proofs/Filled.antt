@@ -57,7 +57,8 @@ module _ {A : Type 0} where
   from-cong f g i zero h = refl
   from-cong f g i (suc m) h =
       let e : f i ≡ g i = rw add-zero at (h 0 (zero-lt-suc m)) in
-      let r : tabulateFrom (suc i) m f ≡ tabulateFrom (suc i) m g = from-cong f g (suc i) m (λ (k : ℕ) (l : k < m). rw (add-suc, ← suc-add) at (h (suc k) (omega arith))) in
+      let r : tabulateFrom (suc i) m f ≡ tabulateFrom (suc i) m g = from-cong f g (suc i) m
+      (λ (k : ℕ) (l : k < m). rw (add-suc, ← suc-add) at (h (suc k) (omega arith))) in
       rw (e, r)
 
   -- equal entries, equal lists

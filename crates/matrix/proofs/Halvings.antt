@@ -11,6 +11,7 @@ pub halvings-stop : (threshold : Float) (d n : ℕ) (x : Float) → lt threshold
 unfolding halvings
 halvings-stop threshold d n x h = rw (halvings, h)
 
-pub halvings-go : (threshold : Float) (d n : ℕ) (x : Float) → lt threshold x ≡ true → halvings threshold (suc d) n x ≡ halvings threshold d (suc n) (mul binary64 x half)
+pub halvings-go : (threshold : Float) (d n : ℕ) (x : Float) → lt threshold x ≡ true
+    → halvings threshold (suc d) n x ≡ halvings threshold d (suc n) (mul binary64 x half)
 unfolding halvings
 halvings-go threshold d n x h = rw (halvings, h)

@@ -7,18 +7,21 @@ use native.Mathlib.Numerals.{add-one}
 use native.Mathlib.Omega.{arith}
 use lib.ListN.{length, getD}
 use lib.Ieee.{Float, nan, binary64, add, mul, div}
+use Rattle.limits.specs.Limits.{block}
 use Rattle.binary64.specs.Doubles.{half}
 use Rattle.matrix.specs.Matrix.{Matrix, cell, at, sumTo, allTo, tabulate, table, dot, product, quotient, plus, halved}
-use Rattle.matrix.specs.Arrays.{block, lead, updated, scaledSum, rowTimes, rowQuotient, rowSumOf, rowHalf}
+use Rattle.matrix.specs.Arrays.{lead, updated, scaledSum, rowTimes, rowQuotient, rowSumOf, rowHalf}
 use Rattle.matrix.proofs.Filled.{tabulate-cong, tabulate-at}
 use Rattle.matrix.proofs.Updated.{updated-at}
 
 -- one row of b more
-pub times-more : (r : List Float) (b : Matrix) (k : ℕ) {s t : List Float} → s ≡ rowTimes r b k → t ≡ scaledSum s (cell r k) (getD b k []) → t ≡ rowTimes r b (k + 1)
+pub times-more : (r : List Float) (b : Matrix) (k : ℕ) {s t : List Float} → s ≡ rowTimes r b k → t ≡ scaledSum s (cell r k) (getD b k [])
+    → t ≡ rowTimes r b (k + 1)
 unfolding scaledSum rowTimes sumTo
 times-more r b k p q =
     q ∙ rw (p, add-one)
-    (tabulate-cong block (λ (j : ℕ) (h : j < block). ap (λ (x : Float). add binary64 x (mul binary64 (cell r k) (at b k j))) (tabulate-at (λ j. sumTo (λ k. mul binary64 (cell r k) (at b k j)) k) nan block j h)))
+    (tabulate-cong block (λ (j : ℕ) (h : j < block). ap (λ (x : Float). add binary64 x (mul binary64 (cell r k) (at b k j)))
+    (tabulate-at (λ j. sumTo (λ k. mul binary64 (cell r k) (at b k j)) k) nan block j h)))
 
 -- equal summands, equal sums
 pub sum-cong : {f g : ℕ → Float} (m : ℕ) → ((k : ℕ) → k < m → f k ≡ g k) → sumTo f m ≡ sumTo g m
@@ -45,7 +48,8 @@ lead-at m a i j p q = table-at (at a) m i j p q
 
 -- the leading part after its rows are replaced
 module _ (m : ℕ) (fit : m ≤ block) (a : Matrix) (width : length a ≡ block) where
-  pub replaced : (g : ℕ → List Float → List Float) {f : ℕ → ℕ → Float} → ((i j : ℕ) → i < m → j < m → cell (g i (getD a i [])) j ≡ f i j) → lead m (updated m g a) ≡ table m f
+  pub replaced : (g : ℕ → List Float → List Float) {f : ℕ → ℕ → Float} → ((i j : ℕ) → i < m → j < m → cell (g i (getD a i [])) j ≡ f i j)
+      → lead m (updated m g a) ≡ table m f
   unfolding lead
   replaced g h = table-cong m (λ i j p q. ap (λ (r : List Float). cell r j) (updated-at g [] m i a p (omega arith)) ∙ h i j p q)
 
@@ -53,7 +57,8 @@ module _ (m : ℕ) (fit : m ≤ block) (a : Matrix) (width : length a ≡ block)
   unfolding halved rowHalf
   lead-halved =
       replaced (λ i r. rowHalf r)
-      (λ i j p q. tabulate-at (λ j. mul binary64 (cell (getD a i []) j) half) nan block j (omega arith) ∙ ap (λ (x : Float). mul binary64 x half) (sym (lead-at m a i j p q)))
+      (λ i j p q. tabulate-at (λ j. mul binary64 (cell (getD a i []) j) half) nan block j (omega arith)
+      ∙ ap (λ (x : Float). mul binary64 x half) (sym (lead-at m a i j p q)))
 
   pub lead-plus : (t : Matrix) → lead m (updated m (λ i r. rowSumOf r (getD t i [])) a) ≡ plus m (lead m a) (lead m t)
   unfolding plus rowSumOf
@@ -74,7 +79,8 @@ module _ (m : ℕ) (fit : m ≤ block) (a : Matrix) (width : length a ≡ block)
   lead-term b x =
       replaced (λ i r. rowQuotient (rowTimes r b m) x)
       (λ i j p q. tabulate-at (λ j. div binary64 (cell (rowTimes (getD a i []) b m) j) x) nan block j (omega arith)
-      ∙ ap (λ (y : Float). div binary64 y x) (times-at (getD a i []) b (lead m a) i j q (λ k l. sym (lead-at m a i k p l)) ∙ sym (table-at (dot (lead m a) (lead m b) m) m i j p q)))
+      ∙ ap (λ (y : Float). div binary64 y x) (times-at (getD a i []) b (lead m a) i j q (λ k l. sym (lead-at m a i k p l))
+      ∙ sym (table-at (dot (lead m a) (lead m b) m) m i j p q)))
 
   pub lead-square : (p : Matrix) → lead m (updated m (λ i r. rowTimes (getD p i []) p m) a) ≡ product m (lead m p) (lead m p)
   unfolding product

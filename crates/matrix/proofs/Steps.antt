@@ -10,9 +10,10 @@ use lib.IntN.{pos}
 use lib.ListN.{length, getD, set, replicate, length-replicate, getD-replicate}
 use lib.Seq.{getD-set-same, getD-set-other}
 use lib.Ieee.{Float, nan, binary64, ofInt}
+use Rattle.limits.specs.Limits.{block}
 use Rattle.binary64.specs.Doubles.{plusZero, one}
 use Rattle.matrix.specs.Matrix.{Matrix, cell, at, identity}
-use Rattle.matrix.specs.Arrays.{block, lead, Holds, updated, rowHalf, rowTimes, rowQuotient, rowSumOf}
+use Rattle.matrix.specs.Arrays.{lead, Holds, updated, rowHalf, rowTimes, rowQuotient, rowSumOf}
 use Rattle.matrix.specs.Exponential.{halvedTimes, series, nextTerm, squarings}
 use Rattle.matrix.proofs.Updated.{updated-length}
 use Rattle.matrix.proofs.Rows.{replaced, lead-halved, lead-plus, lead-term, lead-square}
@@ -37,12 +38,20 @@ module _ (m : ℕ) (fit : m ≤ block) where
   unfolding identity
   identity-made e = rw e (record {
     width = updated-length (λ i r. set r i one) m zeros ∙ length-replicate block (replicate block plusZero);
-    part = replaced m fit zeros (length-replicate block (replicate block plusZero)) (λ i r. set r i one) (λ i j p q. ap (λ (r : List Float). cell (set r i one) j) (getD-replicate block i (replicate block plusZero) [] (omega arith)) ∙ unit-at i j (omega arith) (omega arith));
+    part =
+        replaced m fit zeros (length-replicate block (replicate block plusZero)) (λ i r. set r i one)
+        (λ i j p q. ap (λ (r : List Float). cell (set r i one) j) (getD-replicate block i (replicate block plusZero) [] (omega arith))
+        ∙ unit-at i j (omega arith) (omega arith));
   })
 
-  pub halved-more : (k : ℕ) (a : Matrix) {r q : Matrix} → Holds m r (halvedTimes m k a) → q ≡ updated m (λ i r. rowHalf r) r → Holds m q (halvedTimes m (k + 1) a)
+  pub halved-more : (k : ℕ) (a : Matrix) {r q : Matrix} → Holds m r (halvedTimes m k a) → q ≡ updated m (λ i r. rowHalf r) r
+      → Holds m q (halvedTimes m (k + 1) a)
   unfolding halvedTimes
-  halved-more k a {r} h e = rw (e, add-one) (record { width = updated-length (λ i r. rowHalf r) m r ∙ h .width; part = lead-halved m fit r (h .width) ∙ rw (h .part) })
+  halved-more k a {r} h e = rw (e, add-one) (record {
+    width = updated-length (λ i r. rowHalf r) m r
+        ∙ h .width;
+    part = lead-halved m fit r (h .width) ∙ rw (h .part);
+  })
 
   pub term-more :
       (k : ℕ) (b : Matrix) {t u : Matrix} → Holds m t (series m (lead m b) k .term)
@@ -67,7 +76,11 @@ module _ (m : ℕ) (fit : m ≤ block) where
       (k : ℕ) (a n : Matrix) {r s : Matrix} → Holds m r (squarings m k a) → length n ≡ block
       → s ≡ updated m (λ i x. rowTimes (getD r i []) r m) n → Holds m s (squarings m (suc k) a)
   unfolding squarings
-  squared-once k a n {r} h l e = rw e (record { width = updated-length (λ i x. rowTimes (getD r i []) r m) m n ∙ l; part = lead-square m fit n l r ∙ rw (h .part) })
+  squared-once k a n {r} h l e = rw e (record {
+    width = updated-length (λ i x. rowTimes (getD r i []) r m) m n
+        ∙ l;
+    part = lead-square m fit n l r ∙ rw (h .part);
+  })
 
   -- two more, from r into an array n and back into r
   pub squared-twice :

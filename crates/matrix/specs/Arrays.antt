@@ -5,12 +5,9 @@ use Prim.Native.Nat.{ℕ, zero, suc}
 use mathlib.Core.Path.{_≡_}
 use lib.ListN.{length}
 use lib.Ieee.{Float, binary64, add, mul, div}
+use Rattle.limits.specs.Limits.{block}
 use Rattle.binary64.specs.Doubles.{half}
 use Rattle.matrix.specs.Matrix.{Matrix, tabulate, table, cell, at, sumTo}
-
--- the width of a block's arrays
-abbrev pub block : ℕ
-block = 8
 
 -- the leading m by m part of an array of arrays
 unfoldable pub lead : ℕ → Matrix → Matrix

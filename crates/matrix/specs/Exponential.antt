@@ -36,9 +36,9 @@ halvings threshold zero n x = refused 21
 halvings threshold (suc d) n x = elim (lt threshold x) [ false ↦ done n | true ↦ halvings threshold d (suc n) (mul binary64 x half) ]
 
 -- the halvings of a norm x: 20 where it is not finite, 21 where the most do not suffice
-unfoldable pub countOf : Float → ℕ → Float → Result ℕ
+unfoldable pub halvingCount : Float → ℕ → Float → Result ℕ
 unfolding halvings
-countOf threshold most x = andThen (unless (finite x) 20 x) (halvings threshold (suc most) 0)
+halvingCount threshold most x = andThen (unless (finite x) 20 x) (halvings threshold (suc most) 0)
 
 -- c halvings, one at a time
 unfoldable pub halvedTimes : ℕ → ℕ → Matrix → Matrix
@@ -88,7 +88,7 @@ pub record Exponential : Type 0 where
 
 -- 22 where an entry is not finite
 unfoldable pub exponential : Scheme → ℕ → Matrix → Result Exponential
-unfolding countOf normTo taylor allFinite
+unfolding halvingCount normTo taylor allFinite
 exponential s m a =
-    andThen (countOf (s .threshold) (s .most) (normTo a m m))
+    andThen (halvingCount (s .threshold) (s .most) (normTo a m m))
     (λ c. andThen (done (taylor s m c a)) (λ p. unless (allFinite m p) 22 (record { halved = c; matrix = p })))

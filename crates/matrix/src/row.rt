@@ -1,7 +1,8 @@
 // Rows of a block, by value and over the whole width.
-use crate::BLOCK;
+use limits::BLOCK;
 ghost use mathlib.Core.Path.{_≡_};
 ghost use Prim.Native.Nat.{_≤_};
+ghost use Rattle.limits.specs.Limits.{block};
 ghost use Rattle.matrix.specs.Arrays.{scaledSum, rowQuotient, rowSumOf, rowHalf, rowTimes};
 
 // sum + x·row
@@ -47,7 +48,7 @@ pub fn halved(row: [f64; BLOCK]) -> [f64; BLOCK]
 
 // row × b, where b has m rows in use: the rows of b, scaled and summed in order.
 pub fn times(row: [f64; BLOCK], b: &[[f64; BLOCK]; BLOCK], m: usize) -> [f64; BLOCK]
-    requires { ⌜ m ≤ 8 ⌝ }
+    requires { ⌜ m ≤ block ⌝ }
     ensures { λ r. ⌜ r ≡ rowTimes row (now (b .entry)) m ⌝ }
 {
     let mut sum = [-0.0f64; BLOCK];

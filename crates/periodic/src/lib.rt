@@ -1,9 +1,12 @@
 // `periodic_steady_state`: the closed cycle of a list, from the tests ahead of it to the amounts, the residuals and the greatest scaled one.
 use cycle::SteadyStateTolerance;
-use events::EVENTS;
+use events::Reals;
+use events::Words;
+use limits::CYCLE_EVENTS;
+use limits::EVENTS;
+use limits::SAMPLES;
 use linear_pk::LinearPk;
 use periodic_acceptance::SteadyReply;
-use preparation::SAMPLES;
 use protocol::Event;
 use protocol::Window;
 use refusal::Refusal;
@@ -13,15 +16,13 @@ ghost use mathlib.Core.Bool.{_&&_};
 ghost use Prim.Native.Nat.{_≤_};
 ghost use lib.Dec.{leb};
 ghost use lib.ListN.{length};
+ghost use Rattle.limits.specs.Limits.{states, mostCycleEvents};
 ghost use Rattle.linear_pk.specs.LinearPk.{stateCount};
 ghost use Rattle.events.specs.Packed.{packed};
 ghost use Rattle.simulation.specs.KernelRun.{propagatorOf};
-ghost use Rattle.cycle.specs.Closed.{closed as closedOf, steadyReplyOf, answerAtExit};
+ghost use Rattle.cycle.specs.Closed.{closed as closedOf, steadyReportOf, answerAtExit};
 ghost use Rattle.periodic_acceptance.specs.Entry.{steadyRoom, steadyEntry, steadyReply};
 ghost use Rattle.periodic_acceptance.specs.Replies.{Answers};
-
-// The most events of a cycle's list before it is folded.
-const CYCLE_EVENTS: usize = 64;
 
 // The closed cycle of the packed list, folded into cells of its own.
 fn closed(
@@ -30,13 +31,13 @@ fn closed(
     window: Window,
     samples: &[f64],
     tolerance: SteadyStateTolerance,
-    reals: &[[f64; 3]; EVENTS],
-    words: &[[usize; 4]; EVENTS],
+    reals: &Reals,
+    words: &Words,
     count: usize,
     amounts: &mut [f64],
     residual: &mut [f64],
 ) -> SteadyReply
-    requires { ⌜ (n ≡ stateCount kernel) × (n ≤ 4) × (count ≤ 64) ⌝ }
+    requires { ⌜ (n ≡ stateCount kernel) × (n ≤ states) × (count ≤ mostCycleEvents) ⌝ }
     ensures { λ r. ⌜ Answers (closedOf (propagatorOf kernel) n window (now (samples .entry)) (packed (now (reals .entry)) (now (words .entry)) count) tolerance
         (leb n (length (now (amounts .entry))) && leb n (length (now (residual .entry)))))
         r (now (amounts .entry)) (now (residual .entry)) (now (amounts .exit)) (now (residual .exit)) ⌝ }
@@ -85,9 +86,14 @@ pub fn periodic_steady_state(
     amounts: &mut [f64],
     residual: &mut [f64],
 ) -> SteadyReply
-    ensures { λ r. ⌜ steadyReply r ≡ steadyReplyOf (steadyEntry kernel window (now (samples .entry)) events count tolerance (steadyRoom kernel (length (now (amounts .entry))) (length (now (residual .entry))))) ⌝ }
-    ensures { λ r. ⌜ now (amounts .exit) ≡ answerAtExit (λ s. s .amounts) (steadyEntry kernel window (now (samples .entry)) events count tolerance (steadyRoom kernel (length (now (amounts .entry))) (length (now (residual .entry))))) (now (amounts .entry)) ⌝ }
-    ensures { λ r. ⌜ now (residual .exit) ≡ answerAtExit (λ s. s .residuals) (steadyEntry kernel window (now (samples .entry)) events count tolerance (steadyRoom kernel (length (now (amounts .entry))) (length (now (residual .entry))))) (now (residual .entry)) ⌝ }
+    ensures { λ r. ⌜ steadyReply r ≡ steadyReportOf (steadyEntry kernel window (now (samples .entry)) events count tolerance
+        (steadyRoom kernel (length (now (amounts .entry))) (length (now (residual .entry))))) ⌝ }
+    ensures { λ r. ⌜ now (amounts .exit) ≡ answerAtExit (λ s. s .amounts) (steadyEntry kernel window
+        (now (samples .entry)) events count tolerance (steadyRoom kernel (length (now (amounts .entry)))
+        (length (now (residual .entry))))) (now (amounts .entry)) ⌝ }
+    ensures { λ r. ⌜ now (residual .exit) ≡ answerAtExit (λ s. s .residuals) (steadyEntry kernel window
+        (now (samples .entry)) events count tolerance (steadyRoom kernel (length (now (amounts .entry)))
+        (length (now (residual .entry))))) (now (residual .entry)) ⌝ }
 {
     if count > CYCLE_EVENTS {
         return periodic_acceptance::refused(Refusal::Limit);

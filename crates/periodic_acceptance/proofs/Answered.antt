@@ -6,20 +6,20 @@ use Prim.Native.Nat.{ℕ, _≤_}
 use lib.Dec.{leb}
 use lib.ListN.{length, take, drop, length-map}
 use lib.Ieee.{Float}
+use Rattle.limits.specs.Limits.{states, mostCycleEvents, mostEvents, mostSamples}
 use Rattle.binary64.specs.Doubles.{plusZero}
 use Rattle.refusal.specs.Result.{refused, done}
 use Rattle.refusal.specs.Numbers.{refusalNumber}
 use Rattle.refusal.specs.declared.Refusal.{Refusal}
 use Rattle.linear_pk.specs.LinearPk.{sound, stateCount}
 use Rattle.linear_pk.specs.declared.kernel.LinearPk.{LinearPk}
-use Rattle.protocol.specs.Entry.{mostSamples}
 use Rattle.protocol.specs.Execute.{Propagator}
 use Rattle.protocol.specs.declared.Event.{Event}
 use Rattle.protocol.specs.declared.Window.{Window}
 use Rattle.simulation.specs.KernelRun.{propagatorOf}
 use Rattle.cycle.specs.declared.SteadyStateTolerance.{SteadyStateTolerance}
-use Rattle.cycle.specs.Fold.{mostCycleEvents}
-use Rattle.cycle.specs.Closed.{Timed, stopped, got, then, unlessFails, ready, homogeneous, zeroed, solution, Solved, accepted, closed, steadyReplyOf, answerAtExit}
+use Rattle.cycle.specs.Closed.{Timed, stopped, got, then, unlessFails, ready, homogeneous, zeroed, solution, SteadyState, accepted, closed}
+use Rattle.cycle.specs.Closed.{steadyReportOf, answerAtExit}
 use Rattle.cycle.specs.ClosedCycle.{closedNumbers}
 use Rattle.cycle.proofs.Folds.{zeroed-passes}
 use Rattle.cycle.proofs.InnerRuns.{Ready, ready-hands}
@@ -31,27 +31,30 @@ use Rattle.periodic_acceptance.specs.Entry.{steadyEntry, steadyReply}
 use Rattle.periodic_acceptance.specs.Replies.{Answers}
 
 -- ---- a refusal leaves the slices as they were; an answer stands at their front
-pub refuses : {o : Timed Solved} {r : SteadyReply} {x : Refusal} {t : Float} (a e : List Float) → r ≡ P.Refused x t → stopped (refusalNumber x) t ≡ o → Answers o r a e a e
+pub refuses : {o : Timed SteadyState} {r : SteadyReply} {x : Refusal} {t : Float} (a e : List Float) → r ≡ P.Refused x t
+    → stopped (refusalNumber x) t ≡ o → Answers o r a e a e
 refuses a e q p = record {
-  reply = ap steadyReply q ∙ ap steadyReplyOf p;
-  amounts = ap (λ (x : Timed Solved). answerAtExit (λ s. s .amounts) x a) p;
-  residuals = ap (λ (x : Timed Solved). answerAtExit (λ s. s .residuals) x e) p;
+  reply = ap steadyReply q ∙ ap steadyReportOf p;
+  amounts = ap (λ (x : Timed SteadyState). answerAtExit (λ s. s .amounts) x a) p;
+  residuals = ap (λ (x : Timed SteadyState). answerAtExit (λ s. s .residuals) x e) p;
 }
 
-pub solves : {o : Timed Solved} (s : Solved) (a e : List Float) {a' e' : List Float} → got s ≡ o → a' ≡ s .amounts ++ drop (length (s .amounts)) a → e' ≡ s .residuals ++ drop (length (s .residuals)) e
-    → Answers o (P.Solved (s .greatest)) a e a' e'
+pub solves : {o : Timed SteadyState} (s : SteadyState) (a e : List Float) {a' e' : List Float} → got s ≡ o
+    → a' ≡ s .amounts ++ drop (length (s .amounts)) a → e' ≡ s .residuals ++ drop (length (s .residuals)) e
+    → Answers o (P.Solved (s .maximum)) a e a' e'
 solves s a e p q r = record {
-  reply = ap steadyReplyOf p;
-  amounts = q ∙ ap (λ (x : Timed Solved). answerAtExit (λ s. s .amounts) x a) p;
-  residuals = r ∙ ap (λ (x : Timed Solved). answerAtExit (λ s. s .residuals) x e) p;
+  reply = ap steadyReportOf p;
+  amounts = q ∙ ap (λ (x : Timed SteadyState). answerAtExit (λ s. s .amounts) x a) p;
+  residuals = r ∙ ap (λ (x : Timed SteadyState). answerAtExit (λ s. s .residuals) x e) p;
 }
 
-pub answers-as : {o o' : Timed Solved} {r : SteadyReply} {a e a' e' : List Float} → o ≡ o' → Answers o r a e a' e' → Answers o' r a e a' e'
-answers-as {o} {o'} {r} {a} {e} {a'} {e'} p h = subst (λ (x : Timed Solved). Answers x r a e a' e') p h
+pub answers-as : {o o' : Timed SteadyState} {r : SteadyReply} {a e a' e' : List Float} → o ≡ o' → Answers o r a e a' e' → Answers o' r a e a' e'
+answers-as {o} {o'} {r} {a} {e} {a'} {e'} p h = subst (λ (x : Timed SteadyState). Answers x r a e a' e') p h
 
 -- ---- what the runs ask, of the folded list and of the zeroed one
-module _ (k : LinearPk) (n : ℕ) (w : Window) (ss : List Float) (es : List Event) (tol : SteadyStateTolerance) (c : n ≡ stateCount k) (s : n ≤ 4) {fs : List Event} (r : got fs ≡ ready n w ss es tol)
-    (l : length fs ≤ 192) where
+module _ (k : LinearPk) (n : ℕ) (w : Window) (ss : List Float) (es : List Event) (tol : SteadyStateTolerance) (c : n ≡ stateCount k)
+    (s : n ≤ states) {fs : List Event} (r : got fs ≡ ready n w ss es tol)
+    (l : length fs ≤ mostEvents) where
   passed : Ready n w es tol fs
   passed = hands-got closedNumbers (Ready n w es tol) (ready n w ss es tol) fs (ready-hands n w ss es tol) (sym r)
 
@@ -70,7 +73,7 @@ module _ (k : LinearPk) (n : ℕ) (w : Window) (ss : List Float) (es : List Even
 -- ---- behind them
 module _ (advance : Propagator) (n : ℕ) (w : Window) (tol : SteadyStateTolerance) (fs : List Event) where
   -- 4, the candidate, its acceptance
-  abbrev pub roomThen : Bool → Timed Solved
+  abbrev pub roomThen : Bool → Timed SteadyState
   roomThen room = then (unlessFails room 4 fs) (λ fs. then (solution advance n w fs) (accepted advance n w tol fs))
 
   pub room-stops : {room : Bool} → room ≡ false → stopped 4 plusZero ≡ roomThen room
@@ -80,7 +83,7 @@ module _ (advance : Propagator) (n : ℕ) (w : Window) (tol : SteadyStateToleran
     pub candidate-none : {c : ℕ} {t : Float} → stopped c t ≡ solution advance n w fs → stopped c t ≡ roomThen room
     candidate-none e = rw (h, ← e)
 
-    pub candidate-some : {a : List Float} {o : Timed Solved} → got a ≡ solution advance n w fs → o ≡ accepted advance n w tol fs a → o ≡ roomThen room
+    pub candidate-some : {a : List Float} {o : Timed SteadyState} → got a ≡ solution advance n w fs → o ≡ accepted advance n w tol fs a → o ≡ roomThen room
     candidate-some e q = rw (h, ← e) q
 
 module _ (advance : Propagator) (n : ℕ) (w : Window) (ss : List Float) (es : List Event) (tol : SteadyStateTolerance) (room : Bool) where

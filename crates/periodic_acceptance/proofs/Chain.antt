@@ -10,7 +10,7 @@ use Rattle.protocol.specs.Execute.{Propagator}
 use Rattle.protocol.specs.declared.Event.{Event}
 use Rattle.protocol.specs.declared.Window.{Window}
 use Rattle.cycle.specs.declared.SteadyStateTolerance.{SteadyStateTolerance}
-use Rattle.cycle.specs.Closed.{stopped, got, then, lastOf, greatestTo, residualsOf, accepted}
+use Rattle.cycle.specs.Closed.{stopped, got, then, lastOf, checkedMaximumTo, residualsOf, accepted}
 
 -- ---- the candidate
 module _ (advance : Propagator) (n : ℕ) (w : Window) (tol : SteadyStateTolerance) (fs : List Event) (a : List Float) where
@@ -24,6 +24,6 @@ module _ (advance : Propagator) (n : ℕ) (w : Window) (tol : SteadyStateToleran
     run-stops e = rw (h, ← e)
 
     pub run-ends : {e : List Float} → got e ≡ lastOf advance n w fs a
-        → then (greatestTo tol a e n) (λ m. got (record { amounts = a; residuals = residualsOf n a e; greatest = m })) ≡ accepted advance n w tol fs a
+        → then (checkedMaximumTo tol a e n) (λ m. got (record { amounts = a; residuals = residualsOf n a e; maximum = m })) ≡ accepted advance n w tol fs a
     unfolding accepted
     run-ends e = rw (h, ← e)

@@ -1,9 +1,10 @@
 // The acceptance of a closed cycle's candidate, by its own run; what a closed cycle replies, and the writing of its answers.
 use binary64::Test;
 use cycle::SteadyStateTolerance;
-use events::EVENTS;
+use events::Reals;
+use events::Words;
+use limits::STATES;
 use linear_pk::LinearPk;
-use matrix::STATES;
 use protocol::Window;
 use refusal::Refusal;
 use refusal::Reply;
@@ -11,10 +12,11 @@ ghost use mathlib.Core.Path.{_≡_};
 ghost use mathlib.Core.List.{_++_};
 ghost use Prim.Native.Nat.{_≤_};
 ghost use lib.ListN.{length, take, drop};
+ghost use Rattle.limits.specs.Limits.{states};
 ghost use Rattle.binary64.specs.Doubles.{plusZero};
 ghost use Rattle.events.specs.Packed.{packed};
 ghost use Rattle.simulation.specs.KernelRun.{propagatorOf};
-ghost use Rattle.cycle.specs.Closed.{got, then, greatestTo, residualsOf, accepted as acceptedOf};
+ghost use Rattle.cycle.specs.Closed.{got, then, checkedMaximumTo, residualsOf, accepted as acceptedOf};
 ghost use Rattle.periodic_runs.specs.Ends.{Runs};
 ghost use Rattle.periodic_acceptance.specs.Acceptance.{acceptance};
 
@@ -34,7 +36,7 @@ pub fn refused(refusal: Refusal) -> SteadyReply
 
 // The first n values from the front of out; the cells behind them stay.
 pub fn lay(n: usize, values: [f64; STATES], out: &mut [f64])
-    requires { ⌜ (n ≤ 4) × (n ≤ length (now out)) ⌝ }
+    requires { ⌜ (n ≤ states) × (n ≤ length (now out)) ⌝ }
     ensures { λ _. ⌜ now (out .exit) ≡ take n values ++ drop (length (take n values)) (now (out .entry)) ⌝ }
 {
     linear_pk_interval::lay(&values[..n], out)
@@ -45,7 +47,7 @@ pub struct Acceptance {
     pub reply: Reply,
     pub time: f64,
     pub residuals: [f64; STATES],
-    pub greatest: f64,
+    pub maximum: f64,
 }
 
 fn not_accepted(refusal: Refusal, time: f64) -> Acceptance
@@ -56,7 +58,7 @@ fn not_accepted(refusal: Refusal, time: f64) -> Acceptance
         reply: Reply::Refused(refusal),
         time,
         residuals,
-        greatest: 0.0,
+        maximum: 0.0,
     }
 }
 
@@ -67,11 +69,11 @@ fn judged(
     candidate: [f64; STATES],
     end: [f64; STATES],
 ) -> Acceptance
-    requires { ⌜ n ≤ 4 ⌝ }
-    ensures { λ r. ⌜ acceptance n candidate r ≡ then (greatestTo tolerance (take n candidate) (take n end) n)
-        (λ m. got (record { amounts = take n candidate; residuals = residualsOf n (take n candidate) (take n end); greatest = m })) ⌝ }
+    requires { ⌜ n ≤ states ⌝ }
+    ensures { λ r. ⌜ acceptance n candidate r ≡ then (checkedMaximumTo tolerance (take n candidate) (take n end) n)
+        (λ m. got (record { amounts = take n candidate; residuals = residualsOf n (take n candidate) (take n end); maximum = m })) ⌝ }
 {
-    let scaled = periodic_residual::greatest(n, tolerance, candidate, end);
+    let scaled = periodic_residual::maximum(n, tolerance, candidate, end);
     let reply = scaled.reply;
     match reply {
         Reply::Refused(refusal) => not_accepted(refusal, 0.0),
@@ -81,7 +83,7 @@ fn judged(
                 reply: Reply::Done,
                 time: 0.0,
                 residuals,
-                greatest: scaled.greatest,
+                maximum: scaled.maximum,
             }
         }
     }
@@ -93,13 +95,14 @@ pub fn accepted(
     n: usize,
     window: Window,
     tolerance: SteadyStateTolerance,
-    reals: &[[f64; 3]; EVENTS],
-    words: &[[usize; 4]; EVENTS],
+    reals: &Reals,
+    words: &Words,
     count: usize,
     candidate: [f64; STATES],
 ) -> Acceptance
     requires { ⌜ Runs kernel n window (packed (now reals) (now words) count) ⌝ }
-    ensures { λ r. ⌜ acceptance n candidate r ≡ acceptedOf (propagatorOf kernel) n window tolerance (packed (now (reals .entry)) (now (words .entry)) count) (take n candidate) ⌝ }
+    ensures { λ r. ⌜ acceptance n candidate r ≡ acceptedOf (propagatorOf kernel) n window tolerance
+        (packed (now (reals .entry)) (now (words .entry)) count) (take n candidate) ⌝ }
 {
     if !binary64::all_pass(Test::Nonnegative, &candidate[..n]) {
         return not_accepted(Refusal::Candidate, 0.0);

@@ -1,7 +1,8 @@
 // The candidate of a closed cycle, from the runs and elimination.
-use events::EVENTS;
+use events::Reals;
+use events::Words;
+use limits::STATES;
 use linear_pk::LinearPk;
-use matrix::STATES;
 use periodic_runs::CycleEnd;
 use protocol::Window;
 use refusal::Refusal;
@@ -9,6 +10,7 @@ use refusal::Reply;
 ghost use mathlib.Core.Path.{_≡_};
 ghost use Prim.Native.Nat.{_≤_};
 ghost use lib.ListN.{length, take};
+ghost use Rattle.limits.specs.Limits.{states, mostEvents};
 ghost use Rattle.events.specs.Packed.{packed};
 ghost use Rattle.simulation.specs.KernelRun.{propagatorOf};
 ghost use Rattle.cycle.specs.Elimination.{systemOf, solve as solveOf};
@@ -29,7 +31,7 @@ fn not_solved(refusal: Refusal, time: f64) -> CycleEnd
 
 // Elimination on identity minus the columns, with 33.
 fn eliminated(n: usize, columns: &[[f64; STATES]; STATES], offset: [f64; STATES]) -> CycleEnd
-    requires { ⌜ n ≤ 4 ⌝ }
+    requires { ⌜ n ≤ states ⌝ }
     ensures { λ r. ⌜ cycleEnd n r ≡ untimed (solveOf n (systemOf n (columnsOf n (now (columns .entry)) n) (take n offset))) ⌝ }
 {
     let solved = elimination::solve(n, elimination::system(n, columns), offset);
@@ -49,7 +51,7 @@ fn eliminated(n: usize, columns: &[[f64; STATES]; STATES], offset: [f64; STATES]
 
 // Cells for the columns. What they hold is of no matter.
 fn column_cells() -> [[f64; STATES]; STATES]
-    ensures { λ r. ⌜ 4 ≡ length r ⌝ }
+    ensures { λ r. ⌜ states ≡ length r ⌝ }
 {
     let column = [0.0f64; STATES];
     [column; STATES]
@@ -60,11 +62,12 @@ pub fn solution(
     kernel: LinearPk,
     n: usize,
     window: Window,
-    reals: &[[f64; 3]; EVENTS],
-    words: &[[usize; 4]; EVENTS],
+    reals: &Reals,
+    words: &Words,
     count: usize,
 ) -> CycleEnd
-    requires { ⌜ Runs kernel n window (packed (now reals) (now words) count) × Runs kernel n window (homogeneous (packed (now reals) (now words) count)) × (count ≤ 192) ⌝ }
+    requires { ⌜ Runs kernel n window (packed (now reals) (now words) count)
+        × Runs kernel n window (homogeneous (packed (now reals) (now words) count)) × (count ≤ mostEvents) ⌝ }
     ensures { λ r. ⌜ cycleEnd n r ≡ solutionOf (propagatorOf kernel) n window (packed (now (reals .entry)) (now (words .entry)) count) ⌝ }
 {
     let zero = [0.0f64; STATES];

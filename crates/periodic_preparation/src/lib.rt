@@ -1,6 +1,7 @@
 // What is ahead of the runs of a closed cycle: its tolerances, the fold, and the preparation on the divided budgets.
 use cycle::SteadyStateTolerance;
-use events::EVENTS;
+use events::Reals;
+use events::Words;
 use fold_stop::Folding;
 use protocol::Window;
 use refusal::Refusal;
@@ -8,6 +9,7 @@ use refusal::Reply;
 ghost use mathlib.Core.Path.{_≡_};
 ghost use Prim.Native.Nat.{_≤_};
 ghost use lib.ListN.{length};
+ghost use Rattle.limits.specs.Limits.{states, mostCycleEvents, mostEvents};
 ghost use Rattle.refusal.specs.Numbers.{resultOf};
 ghost use Rattle.events.specs.Packed.{packed};
 ghost use Rattle.cycle.specs.Closed.{untimed, tolerancePasses, ready};
@@ -25,16 +27,16 @@ pub fn prepare_periodic_steady_state(
     window: Window,
     samples: &[f64],
     tolerance: SteadyStateTolerance,
-    reals: &[[f64; 3]; EVENTS],
-    words: &[[usize; 4]; EVENTS],
+    reals: &Reals,
+    words: &Words,
     count: usize,
-    out_reals: &mut [[f64; 3]; EVENTS],
-    out_words: &mut [[usize; 4]; EVENTS],
+    out_reals: &mut Reals,
+    out_words: &mut Words,
 ) -> Folding
-    requires { ⌜ (n ≤ 4) × (count ≤ 64) × (length (now «out_reals») ≡ 192) × (length (now «out_words») ≡ 192) ⌝ }
+    requires { ⌜ (n ≤ states) × (count ≤ mostCycleEvents) × (length (now «out_reals») ≡ mostEvents) × (length (now «out_words») ≡ mostEvents) ⌝ }
     ensures { λ r. ⌜ untimed (resultOf (r .reply) (packed (now («out_reals» .exit)) (now («out_words» .exit)) (r .count)))
         ≡ ready n window (now (samples .entry)) (packed (now (reals .entry)) (now (words .entry)) count) tolerance ⌝ }
-    ensures { λ r. ⌜ r .count ≤ 192 ⌝ }
+    ensures { λ r. ⌜ r .count ≤ mostEvents ⌝ }
 {
     if !tolerance_passes(tolerance) {
         return fold_stop::refused(Refusal::Tolerance);

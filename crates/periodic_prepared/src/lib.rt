@@ -1,6 +1,7 @@
 // The closed cycle of a list that was folded and prepared: the candidate, its acceptance, the answers written.
 use cycle::SteadyStateTolerance;
-use events::EVENTS;
+use events::Reals;
+use events::Words;
 use linear_pk::LinearPk;
 use periodic_acceptance::SteadyReply;
 use protocol::Window;
@@ -10,6 +11,7 @@ ghost use mathlib.Core.Bool.{_&&_};
 ghost use Prim.Native.Nat.{_≤_};
 ghost use lib.Dec.{leb};
 ghost use lib.ListN.{length};
+ghost use Rattle.limits.specs.Limits.{mostEvents};
 ghost use Rattle.events.specs.Packed.{packed};
 ghost use Rattle.simulation.specs.KernelRun.{propagatorOf};
 ghost use Rattle.cycle.specs.Closed.{then, unlessFails, homogeneous, solution, accepted};
@@ -22,14 +24,16 @@ pub fn execute_prepared_periodic_steady_state(
     n: usize,
     window: Window,
     tolerance: SteadyStateTolerance,
-    reals: &[[f64; 3]; EVENTS],
-    words: &[[usize; 4]; EVENTS],
+    reals: &Reals,
+    words: &Words,
     count: usize,
     amounts: &mut [f64],
     residual: &mut [f64],
 ) -> SteadyReply
-    requires { ⌜ Runs kernel n window (packed (now reals) (now words) count) × Runs kernel n window (homogeneous (packed (now reals) (now words) count)) × (count ≤ 192) ⌝ }
-    ensures { λ r. ⌜ Answers (then (unlessFails (leb n (length (now (amounts .entry))) && leb n (length (now (residual .entry)))) 4 (packed (now (reals .entry)) (now (words .entry)) count))
+    requires { ⌜ Runs kernel n window (packed (now reals) (now words) count)
+        × Runs kernel n window (homogeneous (packed (now reals) (now words) count)) × (count ≤ mostEvents) ⌝ }
+    ensures { λ r. ⌜ Answers (then (unlessFails (leb n (length (now (amounts .entry))) && leb n (length (now (residual .entry)))) 4
+        (packed (now (reals .entry)) (now (words .entry)) count))
         (λ fs. then (solution (propagatorOf kernel) n window fs) (accepted (propagatorOf kernel) n window tolerance fs)))
         r (now (amounts .entry)) (now (residual .entry)) (now (amounts .exit)) (now (residual .exit)) ⌝ }
 {
@@ -69,7 +73,7 @@ pub fn execute_prepared_periodic_steady_state(
                     periodic_acceptance::lay(n, candidate, amounts);
                     periodic_acceptance::lay(n, residuals, residual);
                     SteadyReply::Solved {
-                        maximum: judgement.greatest,
+                        maximum: judgement.maximum,
                     }
                 }
             }

@@ -1,18 +1,19 @@
 // The residuals of a closed cycle: end minus start, and the greatest scaled one.
 use cycle::SteadyStateTolerance;
-use matrix::STATES;
+use limits::STATES;
 use refusal::Refusal;
 use refusal::Reply;
 ghost use mathlib.Core.Path.{_≡_};
 ghost use Prim.Native.Nat.{_≤_};
 ghost use lib.ListN.{take};
+ghost use Rattle.limits.specs.Limits.{states};
 ghost use Rattle.refusal.specs.Numbers.{resultOf};
-ghost use Rattle.cycle.specs.Closed.{untimed, scaleOf, greatestTo, residualsOf};
+ghost use Rattle.cycle.specs.Closed.{untimed, scaleOf, checkedMaximumTo, residualsOf};
 
 // 35 or 36, or the greatest scaled residual.
 pub struct Scaled {
     pub reply: Reply,
-    pub greatest: f64,
+    pub maximum: f64,
 }
 
 // absolute + relative·max(|start|, |end|)
@@ -28,21 +29,21 @@ fn not_scaled(refusal: Refusal) -> Scaled
 {
     Scaled {
         reply: Reply::Refused(refusal),
-        greatest: 0.0,
+        maximum: 0.0,
     }
 }
 
 // State by state: 35 for its scale, 36 for its scaled residual.
-pub fn greatest(
+pub fn maximum(
     n: usize,
     tolerance: SteadyStateTolerance,
     start: [f64; STATES],
     end: [f64; STATES],
 ) -> Scaled
-    requires { ⌜ n ≤ 4 ⌝ }
-    ensures { λ r. ⌜ untimed (resultOf (r .reply) (r .greatest)) ≡ greatestTo tolerance (take n start) (take n end) n ⌝ }
+    requires { ⌜ n ≤ states ⌝ }
+    ensures { λ r. ⌜ untimed (resultOf (r .reply) (r .maximum)) ≡ checkedMaximumTo tolerance (take n start) (take n end) n ⌝ }
 {
-    let mut greatest = 0.0f64;
+    let mut maximum = 0.0f64;
     for i in 0..n {
         let from = start[i];
         let to = end[i];
@@ -54,17 +55,17 @@ pub fn greatest(
         if !(binary64::is_finite(scaled) & !(1.0 < scaled)) {
             return not_scaled(Refusal::Residual);
         }
-        greatest = binary64_order::max(greatest, scaled);
+        maximum = binary64_order::max(maximum, scaled);
     }
     Scaled {
         reply: Reply::Done,
-        greatest,
+        maximum,
     }
 }
 
 // End minus start, of each state.
 pub fn residuals(n: usize, start: [f64; STATES], end: [f64; STATES]) -> [f64; STATES]
-    requires { ⌜ n ≤ 4 ⌝ }
+    requires { ⌜ n ≤ states ⌝ }
     ensures { λ r. ⌜ take n r ≡ residualsOf n (take n start) (take n end) ⌝ }
 {
     let mut list = [0.0f64; STATES];

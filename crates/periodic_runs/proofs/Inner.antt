@@ -7,6 +7,7 @@ use native.Mathlib.Nat.{le-trans, mul-le-mul-left, mul-le-mul-right}
 use native.Mathlib.Omega.{arith}
 use lib.ListN.{length, take}
 use lib.Ieee.{Float}
+use Rattle.limits.specs.Limits.{states, mostEvents, cycleRows, cycleValues}
 use Rattle.refusal.specs.Numbers.{replyNumber}
 use Rattle.refusal.specs.declared.Reply.{Reply}
 use Rattle.refusal.specs.declared.Reply.the-variants.{Done, Refused}
@@ -19,8 +20,8 @@ use Rattle.protocol.specs.Execute.{Propagator, Outcome, go, stop, runOf}
 use Rattle.protocol.specs.PlainRun.{Prepared}
 use Rattle.protocol.specs.declared.Event.{Event}
 use Rattle.protocol.specs.declared.Window.{Window}
-use Rattle.rows.specs.Written.{Cells, Room}
-use Rattle.rows.specs.Told.{Told, isRefused, told, behindOf, after, Ran, kernelAdvance}
+use Rattle.rows.specs.Written.{Cells, RoomForRows}
+use Rattle.rows.specs.Standing.{Standing, isRefused, standing, behindOf, after, Ran, kernelAdvance}
 use Rattle.rows.specs.declared.Progress.{Progress}
 use Rattle.simulation_matrix.specs.Started.{started}
 use Rattle.simulation.specs.KernelRun.{propagatorOf}
@@ -29,13 +30,14 @@ use Rattle.cycle.proofs.InnerRuns.{run-leaves}
 use Rattle.periodic_runs.specs.Ends.{Runs, timedOf}
 
 -- ---- room for the reckoned rows
-pub inner-room : (n : ℕ) (es : List Event) (c : Cells) → n ≤ 4 → length es ≤ 192 → 770 ≤ length (c .times) → 770 ≤ length (c .sides) → 3080 ≤ length (c .values) → Room n (reckoned [] es) c
+pub inner-room : (n : ℕ) (es : List Event) (c : Cells) → n ≤ states → length es ≤ mostEvents → cycleRows ≤ length (c .times)
+    → cycleRows ≤ length (c .sides) → cycleValues ≤ length (c .values) → RoomForRows n (reckoned [] es) c
 inner-room n es c s e t d v =
-    let few : reckoned [] es ≤ 770 = omega arith in
+    let few : reckoned [] es ≤ cycleRows = omega arith in
     record {
       times = le-trans few t;
       sides = le-trans few d;
-      values = le-trans (mul-le-mul-right n few) (le-trans (mul-le-mul-left 770 s) v);
+      values = le-trans (mul-le-mul-right n few) (le-trans (mul-le-mul-left cycleRows s) v);
     }
 
 -- ---- where it comes to
@@ -43,7 +45,7 @@ as-told : (y : Reply) (t : Float) (a : List Float) → timedOf y t a ≡ cond (i
 as-told Done t a = refl
 as-told (Refused r) t a = refl
 
-abbrev toldEnd : Told → Timed (List Float)
+abbrev toldEnd : Standing → Timed (List Float)
 toldEnd t = cond (t .stopped) (stopped (t .number) (t .time)) (got (t .amounts))
 
 module _ (k : LinearPk) (n : ℕ) (w : Window) (es : List Event) (initial : List Float) (h : Runs k n w es) where
@@ -51,7 +53,8 @@ module _ (k : LinearPk) (n : ℕ) (w : Window) (es : List Event) (initial : List
   unfolding kernelAdvance
   kernel-advance = ap (λ (j : ℕ). λ (x r : List Float) (d : Float). advance scheme k x r d j) (h .count)
 
-  came-to : Prepared n (divided n w) [] es → (o : Outcome) → runOf (propagatorOf k) n (divided n w) [] es (take n initial) ≡ o → (s : Told) → toldEnd (behindOf s o) ≡ endOf o
+  came-to : Prepared n (divided n w) [] es → (o : Outcome) → runOf (propagatorOf k) n (divided n w) [] es (take n initial) ≡ o
+      → (s : Standing) → toldEnd (behindOf s o) ≡ endOf o
   came-to p (stop c t z) e s = refl
   came-to p (go z) e s = ap got (sym (run-leaves (propagatorOf k) n (divided n w) [] es (take n initial) z p e))
 
@@ -63,4 +66,5 @@ module _ (k : LinearPk) (n : ℕ) (w : Window) (es : List Event) (initial : List
       let r' = subst (λ (u : Window). Ran (kernelAdvance k n) n (started initial (u .propagations)) (schedule n u [] es) old p c) e r in
       let r″ = subst (λ (f : Propagator). Ran f n (started initial (divided n w .propagations)) (schedule n (divided n w) [] es) old p c) kernel-advance r' in
       as-told (p .reply) (p .time) (take n (p .amounts)) ∙ ap toldEnd (r″ .progress)
-      ∙ came-to (subst (λ (u : Window). Prepared n u [] es) e q) (runOf (propagatorOf k) n (divided n w) [] es (take n initial)) refl (told n (started initial (divided n w .propagations)))
+      ∙ came-to (subst (λ (u : Window). Prepared n u [] es) e q) (runOf (propagatorOf k) n (divided n w) [] es (take n initial)) refl
+      (standing n (started initial (divided n w .propagations)))

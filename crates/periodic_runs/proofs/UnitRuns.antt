@@ -8,6 +8,7 @@ use native.Mathlib.Omega.{arith}
 use lib.ListN.{length, getD, set, take, replicate}
 use lib.Seq.{getD-set-same, getD-set-other, take-set-lt}
 use lib.Ieee.{Float}
+use Rattle.limits.specs.Limits.{states}
 use Rattle.binary64.specs.Doubles.{plusZero, one}
 use Rattle.matrix.specs.Matrix.{tabulateFrom, tabulate}
 use Rattle.matrix.proofs.Filled.{tabulate-cong}
@@ -20,9 +21,9 @@ use Rattle.periodic_runs.specs.Columns.{columnsOf}
 use Rattle.cycle.proofs.Stays.{stays}
 
 -- a unit amount of n states
-pub unit-front : (n j : ℕ) → n ≤ 4 → j < n → take n (unit 4 j) ≡ unit n j
+pub unit-front : (n j : ℕ) → n ≤ states → j < n → take n (unit states j) ≡ unit n j
 unfolding unit
-unit-front n j h l = take-set-lt n (replicate 4 plusZero) j one l ∙ ap (λ (xs : List Float). set xs j one) (take-replicate n 4 plusZero h)
+unit-front n j h l = take-set-lt n (replicate states plusZero) j one l ∙ ap (λ (xs : List Float). set xs j one) (take-replicate n states plusZero h)
 
 from-snoc : {A : Type 0} (f : ℕ → A) (i m : ℕ) → tabulateFrom i (suc m) f ≡ tabulateFrom i m f ++ (f (i + m) ∷ [])
 unfolding tabulateFrom
@@ -57,11 +58,13 @@ module _ (advance : Propagator) (n : ℕ) (w : Window) (fs : List Event) where
   columns-none cs = refl
 
   module _ (cs : List (List Float)) (j : ℕ) (so-far : columnsTo advance n w fs j ≡ got (columnsOf n cs j)) where
-    next : {r : Timed (List Float)} → r ≡ lastOf advance n w (homogeneous fs) (unit n j) → columnsTo advance n w fs (suc j) ≡ then r (λ c. got (columnsOf n cs j ++ (c ∷ [])))
+    next : {r : Timed (List Float)} → r ≡ lastOf advance n w (homogeneous fs) (unit n j)
+        → columnsTo advance n w fs (suc j) ≡ then r (λ c. got (columnsOf n cs j ++ (c ∷ [])))
     unfolding step
     next e = columns-step j ∙ ap (λ x. then x (step j)) so-far ∙ ap (λ x. then x (λ c. got (columnsOf n cs j ++ (c ∷ [])))) (sym e)
 
-    pub columns-more : (a : List Float) → j < length cs → got (take n a) ≡ lastOf advance n w (homogeneous fs) (unit n j) → columnsTo advance n w fs (j + 1) ≡ got (columnsOf n (set cs j a) (j + 1))
+    pub columns-more : (a : List Float) → j < length cs → got (take n a) ≡ lastOf advance n w (homogeneous fs) (unit n j)
+        → columnsTo advance n w fs (j + 1) ≡ got (columnsOf n (set cs j a) (j + 1))
     columns-more a h e = rw add-one (next e ∙ ap got (sym (columns-set n cs j a h)))
 
     pub columns-stop : {c : ℕ} {t : Float} → j < n → stopped c t ≡ lastOf advance n w (homogeneous fs) (unit n j) → stopped c t ≡ columnsTo advance n w fs n

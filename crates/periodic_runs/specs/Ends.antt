@@ -5,6 +5,7 @@ use mathlib.Core.Option.{none}
 use Prim.Native.Nat.{ℕ, _≤_}
 use lib.ListN.{length, take}
 use lib.Ieee.{Float}
+use Rattle.limits.specs.Limits.{states, mostEvents}
 use Rattle.refusal.specs.Numbers.{refusalNumber}
 use Rattle.refusal.specs.declared.Reply.{Reply}
 use Rattle.refusal.specs.declared.Reply.the-variants.{Done, Refused}
@@ -19,8 +20,8 @@ use Rattle.periodic_runs.specs.declared.CycleEnd.{CycleEnd}
 -- a kernel of n states, and a list that the preparation passes on the divided budgets
 pub record Runs (k : LinearPk) (n : ℕ) (w : Window) (es : List Event) : Type 0 where
   pub count : n ≡ stateCount k
-  pub states : n ≤ 4
-  pub few : length es ≤ 192
+  pub states : n ≤ states
+  pub few : length es ≤ mostEvents
   pub passes : prepare n (divided n w) [] es ≡ none
 
 -- a reply at a time, beside the value that goes with it

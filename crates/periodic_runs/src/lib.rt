@@ -1,12 +1,14 @@
 // The inner runs of a closed cycle, from amounts at the start to those of the last post row, and the columns of the unit amounts.
-use events::EVENTS;
+use events::Reals;
+use events::Words;
+use limits::STATES;
 use linear_pk::LinearPk;
-use matrix::STATES;
 use protocol::Window;
 use refusal::Reply;
 ghost use mathlib.Core.Path.{_≡_};
 ghost use Prim.Native.Nat.{_≤_};
 ghost use lib.ListN.{length, take};
+ghost use Rattle.limits.specs.Limits.{states, mostEvents, mostSamples, mostBoundaries, cycleRows, cycleValues};
 ghost use Rattle.events.specs.Packed.{packed};
 ghost use Rattle.simulation.specs.KernelRun.{propagatorOf};
 ghost use Rattle.cycle.specs.Closed.{lastOf, homogeneous as homogeneousOf, columnsTo};
@@ -26,8 +28,8 @@ fn last_in(
     n: usize,
     initial: [f64; STATES],
     window: Window,
-    reals: &[[f64; 3]; EVENTS],
-    words: &[[usize; 4]; EVENTS],
+    reals: &Reals,
+    words: &Words,
     count: usize,
     readings: &mut [f64],
     bounds: &mut [f64],
@@ -36,7 +38,8 @@ fn last_in(
     values: &mut [f64],
 ) -> CycleEnd
     requires { ⌜ Runs kernel n window (packed (now reals) (now words) count)
-        × (256 ≤ length (now readings)) × (386 ≤ length (now bounds)) × (770 ≤ length (now times)) × (770 ≤ length (now sides)) × (3080 ≤ length (now values)) ⌝ }
+        × (mostSamples ≤ length (now readings)) × (mostBoundaries ≤ length (now bounds)) × (cycleRows ≤ length (now times))
+        × (cycleRows ≤ length (now sides)) × (cycleValues ≤ length (now values)) ⌝ }
     ensures { λ r. ⌜ cycleEnd n r ≡ lastOf (propagatorOf kernel) n window (packed (now (reals .entry)) (now (words .entry)) count) (take n initial) ⌝ }
 {
     let none = [0.0f64; 1];
@@ -70,8 +73,8 @@ pub fn last_of(
     n: usize,
     initial: [f64; STATES],
     window: Window,
-    reals: &[[f64; 3]; EVENTS],
-    words: &[[usize; 4]; EVENTS],
+    reals: &Reals,
+    words: &Words,
     count: usize,
 ) -> CycleEnd
     requires { ⌜ Runs kernel n window (packed (now reals) (now words) count) ⌝ }
@@ -109,13 +112,14 @@ pub fn columns(
     kernel: LinearPk,
     n: usize,
     window: Window,
-    reals: &[[f64; 3]; EVENTS],
-    words: &[[usize; 4]; EVENTS],
+    reals: &Reals,
+    words: &Words,
     count: usize,
     columns: &mut [[f64; STATES]; STATES],
 ) -> ColumnsReply
-    requires { ⌜ Runs kernel n window (homogeneousOf (packed (now reals) (now words) count)) × (count ≤ 192) × (length (now columns) ≡ 4) ⌝ }
-    ensures { λ r. ⌜ columnsEnd n r (now (columns .exit)) ≡ columnsTo (propagatorOf kernel) n window (packed (now (reals .entry)) (now (words .entry)) count) n ⌝ }
+    requires { ⌜ Runs kernel n window (homogeneousOf (packed (now reals) (now words) count)) × (count ≤ mostEvents) × (length (now columns) ≡ states) ⌝ }
+    ensures { λ r. ⌜ columnsEnd n r (now (columns .exit))
+        ≡ columnsTo (propagatorOf kernel) n window (packed (now (reals .entry)) (now (words .entry)) count) n ⌝ }
 {
     let zeroed = periodic_inputs::homogeneous(reals, count);
     for j in 0..n {

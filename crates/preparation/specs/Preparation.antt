@@ -6,15 +6,15 @@ use Prim.Native.Nat.{ℕ}
 use lib.Dec.{leb}
 use lib.ListN.{length, take}
 use lib.Ieee.{Float}
+use Rattle.limits.specs.Limits.{mostEvents, mostSamples}
 use Rattle.refusal.specs.Result.{Result, refused, done}
 use Rattle.linear_pk.specs.LinearPk.{sound, stateCount}
 use Rattle.linear_pk.specs.declared.kernel.LinearPk.{LinearPk}
 use Rattle.protocol.specs.First.{unless, firstOf}
-use Rattle.protocol.specs.Entry.{mostEvents, mostSamples}
 use Rattle.protocol.specs.Prepare.{prepare}
 use Rattle.protocol.specs.declared.Event.{Event}
 use Rattle.protocol.specs.declared.Window.{Window}
-pub use Rattle.preparation_validation.specs.Validation.{numberOf}
+pub use Rattle.preparation_validation.specs.Validation.{optionNumber}
 unfoldable pub use Rattle.preparation_validation.specs.Validation.{validateOf}
 
 -- the kernel's own number

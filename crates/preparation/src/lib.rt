@@ -1,7 +1,10 @@
 // `prepare_simulation`: 13, 10, 11, 12 event by event, 14.
 pub mod admission;
 
-use events::EVENTS;
+use events::Reals;
+use events::Words;
+use limits::EVENTS;
+use limits::SAMPLES;
 use linear_pk::LinearPk;
 use protocol::Event;
 use protocol::Window;
@@ -9,25 +12,23 @@ use refusal::Refusal;
 use refusal::Reply;
 ghost use mathlib.Core.Path.{_≡_};
 ghost use Prim.Native.Nat.{_≤_};
+ghost use Rattle.limits.specs.Limits.{states, mostEvents};
 ghost use Rattle.refusal.specs.Numbers.{replyNumber};
 ghost use Rattle.protocol.specs.Prepare.{prepare};
 ghost use Rattle.events.specs.Packed.{packed};
-ghost use Rattle.preparation.specs.Preparation.{numberOf, prepareEntry};
-
-// The most samples of a run.
-pub const SAMPLES: usize = 256;
+ghost use Rattle.preparation.specs.Preparation.{optionNumber, prepareEntry};
 
 // Whether a run of n states takes the packed list: 13, 10, 11, 12, 14.
 pub fn prepared(
     n: usize,
     window: Window,
     samples: &[f64],
-    reals: &[[f64; 3]; EVENTS],
-    words: &[[usize; 4]; EVENTS],
+    reals: &Reals,
+    words: &Words,
     count: usize,
 ) -> Reply
-    requires { ⌜ (n ≤ 4) × (count ≤ 192) ⌝ }
-    ensures { λ r. ⌜ replyNumber r ≡ numberOf (prepare n window (now (samples .entry)) (packed (now (reals .entry)) (now (words .entry)) count)) ⌝ }
+    requires { ⌜ (n ≤ states) × (count ≤ mostEvents) ⌝ }
+    ensures { λ r. ⌜ replyNumber r ≡ optionNumber (prepare n window (now (samples .entry)) (packed (now (reals .entry)) (now (words .entry)) count)) ⌝ }
 {
     if count > window.events {
         return Reply::Refused(Refusal::EventBudget);
@@ -53,7 +54,7 @@ pub fn prepare_simulation(
     count: usize,
     samples: &[f64],
 ) -> Reply
-    ensures { λ r. ⌜ replyNumber r ≡ numberOf (prepareEntry kernel window (now (samples .entry)) events count) ⌝ }
+    ensures { λ r. ⌜ replyNumber r ≡ optionNumber (prepareEntry kernel window (now (samples .entry)) events count) ⌝ }
 {
     if count > EVENTS {
         return Reply::Refused(Refusal::Limit);

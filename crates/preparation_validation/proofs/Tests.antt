@@ -8,24 +8,24 @@ use Rattle.binary64.specs.Lists.{all}
 use Rattle.protocol.specs.Prepare.{windowPasses, within, eventsPass}
 use Rattle.protocol.specs.declared.Window.{Window}
 use Rattle.protocol.specs.declared.Event.{Event}
-use Rattle.preparation_validation.specs.Validation.{validateOf, numberOf}
+use Rattle.preparation_validation.specs.Validation.{validateOf, optionNumber}
 
 -- `validate`, test by test
 module _ (n : ℕ) (w : Window) (ss : List Float) (es : List Event) {b : Bool} (p : b ≡ windowPasses w) where
-  pub window-fails : b ≡ false → 10 ≡ numberOf (validateOf n w ss es)
+  pub window-fails : b ≡ false → 10 ≡ optionNumber (validateOf n w ss es)
   unfolding validateOf
   window-fails f = rw (← p, f)
 
   module _ {c : Bool} (q : c ≡ all (within w) ss) (t : b ≡ true) where
-    pub sample-fails : c ≡ false → 11 ≡ numberOf (validateOf n w ss es)
+    pub sample-fails : c ≡ false → 11 ≡ optionNumber (validateOf n w ss es)
     unfolding validateOf
     sample-fails f = rw (← p, t, ← q, f)
 
     module _ {d : Bool} (r : d ≡ eventsPass n w [] es) (u : c ≡ true) where
-      pub event-fails : d ≡ false → 12 ≡ numberOf (validateOf n w ss es)
+      pub event-fails : d ≡ false → 12 ≡ optionNumber (validateOf n w ss es)
       unfolding validateOf
       event-fails f = rw (← p, t, ← q, u, ← r, f)
 
-      pub valid : d ≡ true → 0 ≡ numberOf (validateOf n w ss es)
+      pub valid : d ≡ true → 0 ≡ optionNumber (validateOf n w ss es)
       unfolding validateOf
       valid f = rw (← p, t, ← q, u, ← r, f)

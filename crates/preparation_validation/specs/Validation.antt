@@ -14,6 +14,6 @@ unfoldable pub validateOf : ℕ → Window → List Float → List Event → Opt
 validateOf n w ss es = firstOf (unless (windowPasses w) 10 ∷ unless (all (within w) ss) 11 ∷ unless (eventsPass n w [] es) 12 ∷ [])
 
 -- the number of a preparation; 0 stands for none
-abbrev pub numberOf : Option ℕ → ℕ
-numberOf none = 0
-numberOf (some c) = c
+abbrev pub optionNumber : Option ℕ → ℕ
+optionNumber none = 0
+optionNumber (some c) = c

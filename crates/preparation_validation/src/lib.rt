@@ -1,5 +1,6 @@
 // The tests of a window with its samples and events: 10, 11, 12 event by event.
-use events::EVENTS;
+use events::Reals;
+use events::Words;
 use protocol::Event;
 use protocol::Window;
 use refusal::Refusal;
@@ -7,12 +8,13 @@ use refusal::Reply;
 ghost use mathlib.Core.Path.{_≡_};
 ghost use Prim.Native.Nat.{_≤_, _<_};
 ghost use mathlib.Core.List.{[]};
+ghost use Rattle.limits.specs.Limits.{mostEvents};
 ghost use Rattle.binary64.specs.Lists.{any, all};
-ghost use Rattle.protocol.specs.Prepare.{within as withinOf, valuesPass, eventPasses, eventsPass, windowPasses};
+ghost use Rattle.protocol.specs.Prepare.{within as withinOf, eventValuesPass, eventPasses, eventsPass, windowPasses};
 ghost use Rattle.events.specs.Packed.{eventAt, packed};
 ghost use Rattle.preparation_validation.specs.Seen.{seen, repeated};
 ghost use Rattle.refusal.specs.Numbers.{replyNumber};
-ghost use Rattle.preparation_validation.specs.Validation.{numberOf, validateOf};
+ghost use Rattle.preparation_validation.specs.Validation.{optionNumber, validateOf};
 
 // Finite and in the window, ends included.
 pub fn within(window: Window, time: f64) -> bool
@@ -41,8 +43,8 @@ fn same_reset(reset: Event, event: Event) -> bool
 }
 
 // Whether one of the first i events is a reset with the time and order of this one.
-fn repeats(reals: &[[f64; 3]; EVENTS], words: &[[usize; 4]; EVENTS], i: usize, reset: Event) -> bool
-    requires { ⌜ i ≤ 192 ⌝ }
+fn repeats(reals: &Reals, words: &Words, i: usize, reset: Event) -> bool
+    requires { ⌜ i ≤ mostEvents ⌝ }
     ensures { λ r. ⌜ r ≡ any (repeated reset) (seen (now (reals .entry)) (now (words .entry)) i) ⌝ }
 {
     let mut found = false;
@@ -53,27 +55,17 @@ fn repeats(reals: &[[f64; 3]; EVENTS], words: &[[usize; 4]; EVENTS], i: usize, r
 }
 
 // An event's values, with the i events ahead of it.
-fn values_pass(
-    window: Window,
-    reals: &[[f64; 3]; EVENTS],
-    words: &[[usize; 4]; EVENTS],
-    i: usize,
-    event: Event,
-) -> bool
-    requires { ⌜ i ≤ 192 ⌝ }
-    ensures { λ r. ⌜ r ≡ valuesPass window (seen (now (reals .entry)) (now (words .entry)) i) event ⌝ }
+fn values_pass(window: Window, reals: &Reals, words: &Words, i: usize, event: Event) -> bool
+    requires { ⌜ i ≤ mostEvents ⌝ }
+    ensures { λ r. ⌜ r ≡ eventValuesPass window (seen (now (reals .entry)) (now (words .entry)) i) event ⌝ }
 {
     match event {
-        Event::Bolus {
-            time: _,
-            target: _,
-            amount,
-        } => binary64::is_nonnegative(amount),
+        Event::Bolus { amount, .. } => binary64::is_nonnegative(amount),
         Event::Infusion {
             time,
-            target: _,
             amount,
             duration,
+            ..
         } => {
             binary64::is_nonnegative(amount)
                 & (binary64::is_positive(duration)
@@ -88,14 +80,8 @@ fn values_pass(
 }
 
 // Whether the event at place i passes 12.
-fn event_passes(
-    n: usize,
-    window: Window,
-    reals: &[[f64; 3]; EVENTS],
-    words: &[[usize; 4]; EVENTS],
-    i: usize,
-) -> bool
-    requires { ⌜ i < 192 ⌝ }
+fn event_passes(n: usize, window: Window, reals: &Reals, words: &Words, i: usize) -> bool
+    requires { ⌜ i < mostEvents ⌝ }
     ensures { λ r. ⌜ r ≡ eventPasses n window (seen (now (reals .entry)) (now (words .entry)) i) (eventAt (now (reals .entry)) (now (words .entry)) i) ⌝ }
 {
     let event = events::event_at(reals, words, i);
@@ -103,14 +89,8 @@ fn event_passes(
         & ((events::target_of(event) < n) & values_pass(window, reals, words, i, event))
 }
 
-pub fn events_pass(
-    n: usize,
-    window: Window,
-    reals: &[[f64; 3]; EVENTS],
-    words: &[[usize; 4]; EVENTS],
-    count: usize,
-) -> bool
-    requires { ⌜ count ≤ 192 ⌝ }
+pub fn events_pass(n: usize, window: Window, reals: &Reals, words: &Words, count: usize) -> bool
+    requires { ⌜ count ≤ mostEvents ⌝ }
     ensures { λ r. ⌜ r ≡ eventsPass n window [] (packed (now (reals .entry)) (now (words .entry)) count) ⌝ }
 {
     let mut ok = true;
@@ -147,12 +127,12 @@ pub fn validate(
     n: usize,
     window: Window,
     samples: &[f64],
-    reals: &[[f64; 3]; EVENTS],
-    words: &[[usize; 4]; EVENTS],
+    reals: &Reals,
+    words: &Words,
     count: usize,
 ) -> Reply
-    requires { ⌜ count ≤ 192 ⌝ }
-    ensures { λ r. ⌜ replyNumber r ≡ numberOf (validateOf n window (now (samples .entry)) (packed (now (reals .entry)) (now (words .entry)) count)) ⌝ }
+    requires { ⌜ count ≤ mostEvents ⌝ }
+    ensures { λ r. ⌜ replyNumber r ≡ optionNumber (validateOf n window (now (samples .entry)) (packed (now (reals .entry)) (now (words .entry)) count)) ⌝ }
 {
     if !window_passes(window) {
         return Reply::Refused(Refusal::Window);

@@ -6,10 +6,12 @@ use Prim.Native.Nat.{ℕ}
 use lib.IntN.{pos}
 use lib.Ieee.{Float, nan, fin, toBits}
 use Rattle.binary64.specs.Doubles.{plusZero, one}
-use Rattle.printout.specs.Printout.{glyph, digits, places, decimal, hexadecimal, bitsOf, doubleText, sideText, amountsText, rowLine, rowLines, headLine, orderedLine, rowsText, refusedText, runText, rowsLength, textLength}
+use Rattle.printout.specs.Printout.{glyph, digits, places, decimal, hexadecimal, bitsOf, doubleText, sideText, amountsText, rowLine}
+use Rattle.printout.specs.Printout.{rowLines, headLine, orderedLine, rowsText, refusedText, runText, rowsLength, textLength}
 
 unfoldable opened : ℕ
-unfolding glyph digits places decimal hexadecimal bitsOf toBits doubleText sideText amountsText rowLine rowLines headLine orderedLine rowsText refusedText runText rowsLength textLength
+unfolding glyph digits places decimal hexadecimal bitsOf toBits doubleText sideText amountsText rowLine rowLines headLine orderedLine
+    rowsText refusedText runText rowsLength textLength
 opened = 0
 
 abbrev three : Float
@@ -21,9 +23,12 @@ four = fin false 1 (pos 2)
 -- amount 3, a bolus of 1 at 0, window 0 to 1: three rows
 three-rows : runText 0 plusZero 3 1 one (plusZero ∷ plusZero ∷ one ∷ []) (1 ∷ 2 ∷ 2 ∷ []) (three ∷ four ∷ four ∷ []) ≡
     114 ∷ 111 ∷ 119 ∷ 115 ∷ 32 ∷ 51 ∷ 10 ∷
-    48 ∷ 48 ∷ 48 ∷ 48 ∷ 48 ∷ 48 ∷ 48 ∷ 48 ∷ 48 ∷ 48 ∷ 48 ∷ 48 ∷ 48 ∷ 48 ∷ 48 ∷ 48 ∷ 32 ∷ 112 ∷ 114 ∷ 101 ∷ 32 ∷ 52 ∷ 48 ∷ 48 ∷ 56 ∷ 48 ∷ 48 ∷ 48 ∷ 48 ∷ 48 ∷ 48 ∷ 48 ∷ 48 ∷ 48 ∷ 48 ∷ 48 ∷ 48 ∷ 10 ∷
-    48 ∷ 48 ∷ 48 ∷ 48 ∷ 48 ∷ 48 ∷ 48 ∷ 48 ∷ 48 ∷ 48 ∷ 48 ∷ 48 ∷ 48 ∷ 48 ∷ 48 ∷ 48 ∷ 32 ∷ 112 ∷ 111 ∷ 115 ∷ 116 ∷ 32 ∷ 52 ∷ 48 ∷ 49 ∷ 48 ∷ 48 ∷ 48 ∷ 48 ∷ 48 ∷ 48 ∷ 48 ∷ 48 ∷ 48 ∷ 48 ∷ 48 ∷ 48 ∷ 48 ∷ 10 ∷
-    51 ∷ 102 ∷ 102 ∷ 48 ∷ 48 ∷ 48 ∷ 48 ∷ 48 ∷ 48 ∷ 48 ∷ 48 ∷ 48 ∷ 48 ∷ 48 ∷ 48 ∷ 48 ∷ 32 ∷ 112 ∷ 111 ∷ 115 ∷ 116 ∷ 32 ∷ 52 ∷ 48 ∷ 49 ∷ 48 ∷ 48 ∷ 48 ∷ 48 ∷ 48 ∷ 48 ∷ 48 ∷ 48 ∷ 48 ∷ 48 ∷ 48 ∷ 48 ∷ 48 ∷ 10 ∷
+    48 ∷ 48 ∷ 48 ∷ 48 ∷ 48 ∷ 48 ∷ 48 ∷ 48 ∷ 48 ∷ 48 ∷ 48 ∷ 48 ∷ 48 ∷ 48 ∷ 48 ∷ 48 ∷ 32 ∷ 112 ∷ 114 ∷ 101 ∷ 32 ∷ 52 ∷ 48 ∷ 48 ∷ 56 ∷ 48 ∷ 48
+    ∷ 48 ∷ 48 ∷ 48 ∷ 48 ∷ 48 ∷ 48 ∷ 48 ∷ 48 ∷ 48 ∷ 48 ∷ 10 ∷
+    48 ∷ 48 ∷ 48 ∷ 48 ∷ 48 ∷ 48 ∷ 48 ∷ 48 ∷ 48 ∷ 48 ∷ 48 ∷ 48 ∷ 48 ∷ 48 ∷ 48 ∷ 48 ∷ 32 ∷ 112 ∷ 111 ∷ 115 ∷ 116 ∷ 32 ∷ 52 ∷ 48 ∷ 49 ∷ 48 ∷ 48
+    ∷ 48 ∷ 48 ∷ 48 ∷ 48 ∷ 48 ∷ 48 ∷ 48 ∷ 48 ∷ 48 ∷ 48 ∷ 48 ∷ 10 ∷
+    51 ∷ 102 ∷ 102 ∷ 48 ∷ 48 ∷ 48 ∷ 48 ∷ 48 ∷ 48 ∷ 48 ∷ 48 ∷ 48 ∷ 48 ∷ 48 ∷ 48 ∷ 48 ∷ 32 ∷ 112 ∷ 111 ∷ 115 ∷ 116 ∷ 32 ∷ 52 ∷ 48 ∷ 49 ∷ 48
+    ∷ 48 ∷ 48 ∷ 48 ∷ 48 ∷ 48 ∷ 48 ∷ 48 ∷ 48 ∷ 48 ∷ 48 ∷ 48 ∷ 48 ∷ 10 ∷
     111 ∷ 114 ∷ 100 ∷ 101 ∷ 114 ∷ 101 ∷ 100 ∷ 32 ∷ 51 ∷ 102 ∷ 102 ∷ 48 ∷ 48 ∷ 48 ∷ 48 ∷ 48 ∷ 48 ∷ 48 ∷ 48 ∷ 48 ∷ 48 ∷ 48 ∷ 48 ∷ 48 ∷ 10 ∷ []
 unfolding opened
 three-rows = refl

@@ -23,11 +23,13 @@ rows-text-length rows n ordered times sides values h =
     omega (arith, rows-text-parts rows n ordered times sides values, head-length rows, rows-length n times sides values rows h, ordered-length ordered)
 
 -- the length is that of the text
-pub text-length : (number : ℕ) (time : Float) (rows n : ℕ) (ordered : Float) (times : List Float) (sides : List ℕ) (values : List Float) → rows * n ≤ length values
+pub text-length : (number : ℕ) (time : Float) (rows n : ℕ) (ordered : Float) (times : List Float) (sides : List ℕ) (values : List Float)
+    → rows * n ≤ length values
     → length (runText number time rows n ordered times sides values) ≡ textLength number rows n sides
 unfolding runText textLength
 text-length number time rows n ordered times sides values h =
-    go (rowsText rows n ordered times sides values) (refusedText number time) (eqb number 0) (rows-text-length rows n ordered times sides values h) (refused-text-length number time)
+    go (rowsText rows n ordered times sides values) (refusedText number time) (eqb number 0)
+    (rows-text-length rows n ordered times sides values h) (refused-text-length number time)
   where
     go : (a b : List ℕ) {i j : ℕ} (t : Bool) → length a ≡ i → length b ≡ j → length (cond t a b) ≡ cond t i j
     go a b true p q = p

@@ -21,7 +21,8 @@ no-room text old h = (rw (lt-leb (length text) (length old) h), rw (lt-leb (leng
 pub with-room : (text old : List ℕ) {r : ℕ} {new : List ℕ} → length text ≤ length old → Wrote text 0 old r new → Printed text old r new
 with-room text old h w = (
   rw (le-leb (length text) (length old) h) (w .place ∙ zero-add (length text)),
-  rw (le-leb (length text) (length old) h) (w .cells ∙ sets-eq text old 0 (rw (zero-add (length text)) h) ∙ ap (λ (k : ℕ). text ++ drop k old) (zero-add (length text))),
+  rw (le-leb (length text) (length old) h) (w .cells ∙ sets-eq text old 0 (rw (zero-add (length text)) h)
+      ∙ ap (λ (k : ℕ). text ++ drop k old) (zero-add (length text))),
 )
 
 module _
@@ -38,7 +39,8 @@ module _
     (old : List ℕ)
   where
     pub too-long : length old < size → Printed (runText number time rows n ordered times sides values) old 0 old
-    too-long h = no-room (runText number time rows n ordered times sides values) old (rw (text-length number time rows n ordered times sides values held, ← counted) h)
+    too-long h =
+        no-room (runText number time rows n ordered times sides values) old (rw (text-length number time rows n ordered times sides values held, ← counted) h)
 
     fits : size ≤ length old → length (runText number time rows n ordered times sides values) ≤ length old
     fits h = rw (text-length number time rows n ordered times sides values held, ← counted) h

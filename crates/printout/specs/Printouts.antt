@@ -11,8 +11,8 @@ pub record Printout : Type 0 where
   pub text : List ℕ
 
 -- ---- the reply of the entry: 4 for an answer that has no room, else the printout's own number, 0 or the refusal's
-abbrev pub numberOf : ℕ → Bool → ℕ
-numberOf c short = cond (eqb c 0 && short) 4 c
+abbrev pub numberOrShort : ℕ → Bool → ℕ
+numberOrShort c short = cond (eqb c 0 && short) 4 c
 
 abbrev pub numberInto : List ℕ → Printout → ℕ
-numberInto old p = numberOf (p .number) (not (leb (length (p .text)) (length old)))
+numberInto old p = numberOrShort (p .number) (not (leb (length (p .text)) (length old)))

@@ -13,7 +13,7 @@ ghost use Rattle.printout.specs.Printout.{rowsText, runText};
 ghost use Rattle.printout.specs.Cells.{Wrote, printed, printedLength};
 ghost use lib.Dec.{eqb};
 ghost use Rattle.refusal.specs.Numbers.{refusalNumber, replyNumber};
-ghost use Rattle.printout.specs.Printouts.{numberOf};
+ghost use Rattle.printout.specs.Printouts.{numberOrShort};
 ghost use Rattle.printout.specs.Replies.{Prints, refusal as refusalOf};
 
 // The text of a run that is not refused.
@@ -26,8 +26,10 @@ fn put_run(
     sides: &[u8],
     values: &[f64],
 ) -> usize
-    requires { ⌜ (rows ≤ length (now times)) × (rows ≤ length (now sides)) × (rows * n ≤ length (now values)) × (length (rowsText rows n ordered (now times) (now sides) (now values)) ≤ length (now out)) ⌝ }
-    ensures { λ r. ⌜ Wrote (rowsText rows n ordered (now (times .entry)) (now (sides .entry)) (now (values .entry))) 0 (now (out .entry)) r (now (out .exit)) ⌝ }
+    requires { ⌜ (rows ≤ length (now times)) × (rows ≤ length (now sides)) × (rows * n ≤ length (now values))
+        × (length (rowsText rows n ordered (now times) (now sides) (now values)) ≤ length (now out)) ⌝ }
+    ensures { λ r. ⌜ Wrote (rowsText rows n ordered (now (times .entry)) (now (sides .entry)) (now (values .entry))) 0 (now (out .entry)) r
+        (now (out .exit)) ⌝ }
 {
     let at = put_head(out, rows);
     let at = put_rows(out, at, rows, n, times, sides, values);
@@ -47,8 +49,10 @@ pub fn print_run(
     out: &mut [u8],
 ) -> usize
     requires { ⌜ (rows ≤ length (now times)) × (rows ≤ length (now sides)) × (rows * n ≤ length (now values)) × (n ≤ 4) × (rows ≤ 1026) ⌝ }
-    ensures { λ r. ⌜ r ≡ printedLength (runText number time rows n ordered (now (times .entry)) (now (sides .entry)) (now (values .entry))) (now (out .entry)) ⌝ }
-    ensures { λ r. ⌜ now (out .exit) ≡ printed (runText number time rows n ordered (now (times .entry)) (now (sides .entry)) (now (values .entry))) (now (out .entry)) ⌝ }
+    ensures { λ r. ⌜ r ≡ printedLength (runText number time rows n ordered (now (times .entry)) (now (sides .entry)) (now (values .entry)))
+        (now (out .entry)) ⌝ }
+    ensures { λ r. ⌜ now (out .exit) ≡ printed (runText number time rows n ordered (now (times .entry)) (now (sides .entry))
+        (now (values .entry))) (now (out .entry)) ⌝ }
 {
     if run_length(number, rows, n, sides) > out.len() {
         return 0;
@@ -77,7 +81,7 @@ fn is_answer(reply: Reply) -> bool
 
 // A text has bytes: none of them stands for no room. A refusal keeps its number without it.
 pub fn reply_of(reply: Reply, length: usize) -> PrintReply
-    ensures { λ r. ⌜ (replyNumber (r .reply) ≡ numberOf (replyNumber reply) (eqb length 0)) × (r .length ≡ length) ⌝ }
+    ensures { λ r. ⌜ (replyNumber (r .reply) ≡ numberOrShort (replyNumber reply) (eqb length 0)) × (r .length ≡ length) ⌝ }
 {
     if is_answer(reply) & (length == 0) {
         return PrintReply {

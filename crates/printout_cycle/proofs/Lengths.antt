@@ -26,10 +26,17 @@ module _ (tol : SteadyStateTolerance) where
   lines-length (suc k) [] ys h l = absurd (omega arith)
   lines-length (suc k) (x ∷ xs) [] h l = absurd (omega arith)
   lines-length (suc k) (x ∷ xs) (y ∷ ys) h l =
-      omega (arith, length-append (cycleLine tol x y) (cycleLines tol (take k xs) (take k ys)), line-length x y, lines-length k xs ys (le-of-suc-le-suc h) (le-of-suc-le-suc l))
+      omega (
+        arith,
+        length-append (cycleLine tol x y) (cycleLines tol (take k xs) (take k ys)),
+        line-length x y,
+        lines-length k xs ys (le-of-suc-le-suc h) (le-of-suc-le-suc l),
+      )
 
   -- one state more
-  next-line : (k : ℕ) (xs ys : List Float) → k < length xs → k < length ys → cycleLines tol (take k xs) (take k ys) ++ cycleLine tol (getD xs k nan) (getD ys k nan) ≡ cycleLines tol (take (suc k) xs) (take (suc k) ys)
+  next-line : (k : ℕ) (xs ys : List Float) → k < length xs → k < length ys
+      → cycleLines tol (take k xs) (take k ys) ++ cycleLine tol (getD xs k nan) (getD ys k nan)
+      ≡ cycleLines tol (take (suc k) xs) (take (suc k) ys)
   unfolding cycleLines
   next-line k [] ys h l = absurd (omega arith)
   next-line k (x ∷ xs) [] h l = absurd (omega arith)
@@ -38,5 +45,7 @@ module _ (tol : SteadyStateTolerance) where
       append-assoc (cycleLine tol x y) (cycleLines tol (take k xs) (take k ys)) (cycleLine tol (getD xs k nan) (getD ys k nan))
       ∙ ap (λ (t : List ℕ). cycleLine tol x y ++ t) (next-line k xs ys (le-of-suc-le-suc h) (le-of-suc-le-suc l))
 
-  pub lines-more : (k : ℕ) (xs ys : List Float) → k < length xs → k < length ys → cycleLines tol (take k xs) (take k ys) ++ cycleLine tol (getD xs k nan) (getD ys k nan) ≡ cycleLines tol (take (k + 1) xs) (take (k + 1) ys)
+  pub lines-more : (k : ℕ) (xs ys : List Float) → k < length xs → k < length ys
+      → cycleLines tol (take k xs) (take k ys) ++ cycleLine tol (getD xs k nan) (getD ys k nan)
+      ≡ cycleLines tol (take (k + 1) xs) (take (k + 1) ys)
   lines-more k xs ys h l = rw add-one (next-line k xs ys h l)

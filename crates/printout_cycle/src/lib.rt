@@ -7,6 +7,7 @@ use printout_numbers::put_text;
 ghost use mathlib.Core.Path.{_≡_};
 ghost use Prim.Native.Nat.{_≤_, _+_, _*_};
 ghost use lib.ListN.{length, take};
+ghost use Rattle.limits.specs.Limits.{states};
 ghost use Rattle.cycle.specs.Closed.{scaledOf};
 ghost use Rattle.printout_cycle.specs.Closes.{stateCloses, closes as closesOf};
 ghost use Rattle.printout_numbers.specs.Written.{Wrote};
@@ -109,7 +110,7 @@ fn put_verdict(out: &mut [u8], at: usize, closed: bool) -> usize
 }
 
 fn lines_length(n: usize, closed: bool) -> usize
-    requires { ⌜ n ≤ 4 ⌝ }
+    requires { ⌜ n ≤ states ⌝ }
     ensures { λ r. ⌜ r ≡ linesLength n closed ⌝ }
 {
     if closed { 68 * n + 7 } else { 68 * n + 11 }
@@ -124,9 +125,11 @@ pub fn print_cycle(
     residual: &[f64],
     out: &mut [u8],
 ) -> usize
-    requires { ⌜ (n ≤ length (now starts)) × (n ≤ length (now ends)) × (n ≤ length (now residual)) × (n ≤ 4) ⌝ }
-    ensures { λ r. ⌜ r ≡ printedLength (linesText (cycleOf tolerance n (now (starts .entry)) (now (ends .entry)) (now (residual .entry)))) (now (out .entry)) ⌝ }
-    ensures { λ r. ⌜ now (out .exit) ≡ printed (linesText (cycleOf tolerance n (now (starts .entry)) (now (ends .entry)) (now (residual .entry)))) (now (out .entry)) ⌝ }
+    requires { ⌜ (n ≤ length (now starts)) × (n ≤ length (now ends)) × (n ≤ length (now residual)) × (n ≤ states) ⌝ }
+    ensures { λ r. ⌜ r ≡ printedLength (linesText (cycleOf tolerance n (now (starts .entry)) (now (ends .entry)) (now (residual .entry))))
+        (now (out .entry)) ⌝ }
+    ensures { λ r. ⌜ now (out .exit) ≡ printed (linesText (cycleOf tolerance n (now (starts .entry)) (now (ends .entry))
+        (now (residual .entry)))) (now (out .entry)) ⌝ }
 {
     let closed = closes(tolerance, n, starts, ends, residual);
     if lines_length(n, closed) > out.len() {

@@ -5,6 +5,7 @@ use Prim.Native.Nat.{ℕ, zero, suc, _*_, _≤_}
 use native.Mathlib.Omega.{arith}
 use lib.Dec.{eqb}
 use lib.ListN.{getD}
+use Rattle.limits.specs.Limits.{states}
 use Rattle.printout_rows.specs.Row.{sideLength}
 use Rattle.printout_rows.specs.Rows.{rowsLength}
 
@@ -15,7 +16,7 @@ side-most s = go (eqb s 1)
     go true = omega arith
     go false = omega arith
 
-pub rows-most : (n : ℕ) (sides : List ℕ) (k : ℕ) → n ≤ 4 → rowsLength n k sides ≤ 90 * k
+pub rows-most : (n : ℕ) (sides : List ℕ) (k : ℕ) → n ≤ states → rowsLength n k sides ≤ 90 * k
 unfolding rowsLength
 rows-most n sides zero h = omega arith
 rows-most n sides (suc k) h = omega (arith, rows-most n sides k h, side-most (getD sides k 0))

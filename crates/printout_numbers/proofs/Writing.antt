@@ -65,7 +65,8 @@ digits-more old at b i w =
     ∙ sym (sets-append old at (digits b i (w / b)) (glyph (w % b) ∷ []))
 
 -- a turn of the loop
-pub digits-step : (out : List ℕ) (at b i w d : ℕ) → 0 < i → d ≡ glyph (w % b) → sets (set out (at + (i - 1)) d) at (digits b (i - 1) (w / b)) ≡ sets out at (digits b i w)
+pub digits-step : (out : List ℕ) (at b i w d : ℕ) → 0 < i → d ≡ glyph (w % b)
+    → sets (set out (at + (i - 1)) d) at (digits b (i - 1) (w / b)) ≡ sets out at (digits b i w)
 digits-step out at b zero w d h e = absurd (omega arith)
 digits-step out at b (suc i) w d h e = rw (sub-one (suc i), e) (digits-more out at b i w)
 

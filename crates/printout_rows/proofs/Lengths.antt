@@ -21,10 +21,12 @@ module _ (n : ℕ) (times : List Float) (sides : List ℕ) (values : List Float)
       let room : n ≤ length (drop (k * n) values) = omega (arith, length-drop (k * n) values) in
       length-append (rowLines n k times sides values) (rowAt n k times sides values)
       ∙ ap₂ _+_ (rows-length k (omega arith))
-      (row-length (getD times k nan) (getD sides k 0) (take n (drop (k * n) values)) ∙ ap (λ (j : ℕ). rowLength j (getD sides k 0)) (length-take-le n (drop (k * n) values) room))
+      (row-length (getD times k nan) (getD sides k 0) (take n (drop (k * n) values))
+      ∙ ap (λ (j : ℕ). rowLength j (getD sides k 0)) (length-take-le n (drop (k * n) values) room))
 
   -- room for all is room for one more
-  pub rows-below : (k rows : ℕ) → k < rows → length (rowLines n k times sides values) + length (rowAt n k times sides values) ≤ length (rowLines n rows times sides values)
+  pub rows-below : (k rows : ℕ) → k < rows → length (rowLines n k times sides values) + length (rowAt n k times sides values) ≤ length
+      (rowLines n rows times sides values)
   unfolding rowLines
   rows-below k zero h = absurd (omega arith)
   rows-below k (suc rows) h =

@@ -33,7 +33,8 @@ amounts-length (x ∷ xs) = length-append (32 ∷ doubleText x) (amountsText xs)
 amounts-append : (xs ys : List Float) → amountsText (xs ++ ys) ≡ amountsText xs ++ amountsText ys
 unfolding amountsText
 amounts-append [] ys = refl
-amounts-append (x ∷ xs) ys = ap (λ (l : List ℕ). (32 ∷ doubleText x) ++ l) (amounts-append xs ys) ∙ sym (append-assoc (32 ∷ doubleText x) (amountsText xs) (amountsText ys))
+amounts-append (x ∷ xs) ys = ap (λ (l : List ℕ). (32 ∷ doubleText x) ++ l) (amounts-append xs ys)
+    ∙ sym (append-assoc (32 ∷ doubleText x) (amountsText xs) (amountsText ys))
 
 pub amounts-more : (xs : List Float) (i : ℕ) → i < length xs → amountsText (take i xs) ++ (32 ∷ doubleText (getD xs i nan)) ≡ amountsText (take (i + 1) xs)
 unfolding amountsText
@@ -48,5 +49,6 @@ unfolding rowLine
 row-length time side xs = simp (length-append, double-length, side-length, amounts-length) (omega arith)
 
 pub row-parts : (time : Float) (side : ℕ) (xs : List Float)
-    → (length (rowLine time side xs) ≡ rowLength (length xs) side) × (length (doubleText time) ≡ 16) × (length (sideText side) ≡ sideLength side) × (length (amountsText xs) ≡ 17 * length xs)
+    → (length (rowLine time side xs) ≡ rowLength (length xs) side) × (length (doubleText time) ≡ 16)
+    × (length (sideText side) ≡ sideLength side) × (length (amountsText xs) ≡ 17 * length xs)
 row-parts time side xs = (row-length time side xs, double-length time, side-length side, amounts-length xs)

@@ -62,7 +62,8 @@ pub fn put_rows(
     sides: &[u8],
     values: &[f64],
 ) -> usize
-    requires { ⌜ (rows ≤ length (now times)) × (rows ≤ length (now sides)) × (rows * n ≤ length (now values)) × (at + length (rowLines n rows (now times) (now sides) (now values)) ≤ length (now out)) ⌝ }
+    requires { ⌜ (rows ≤ length (now times)) × (rows ≤ length (now sides)) × (rows * n ≤ length (now values))
+        × (at + length (rowLines n rows (now times) (now sides) (now values)) ≤ length (now out)) ⌝ }
     ensures { λ r. ⌜ Wrote (rowLines n rows (now (times .entry)) (now (sides .entry)) (now (values .entry))) at (now (out .entry)) r (now (out .exit)) ⌝ }
 {
     let mut place = at;

@@ -15,7 +15,8 @@ use Rattle.printout.specs.Cells.{Wrote}
 use Rattle.printout.proofs.Lengths.{double-length, refused-text-length}
 use Rattle.printout.proofs.Printing.{Printed, no-room, with-room}
 use Rattle.cycle.specs.Closed.{stopped, got}
-use Rattle.printout_steady.specs.SteadyPrintout.{stateLine, stateLines, maxLine, solvedText, steadyText, solvedOf, replyOf, solvedLength, steadyLength}
+use Rattle.printout_steady.specs.SteadyPrintout.{stateLine, stateLines, maxLine, solvedText, steadyText, solvedOf, steadyResult}
+use Rattle.printout_steady.specs.SteadyPrintout.{solvedLength, steadyLength}
 
 pub line-length : (a r : Float) → length (stateLine a r) ≡ 34
 unfolding stateLine
@@ -31,10 +32,16 @@ lines-length zero xs ys h l = refl
 lines-length (suc k) [] ys h l = absurd (omega arith)
 lines-length (suc k) (a ∷ xs) [] h l = absurd (omega arith)
 lines-length (suc k) (a ∷ xs) (r ∷ ys) h l =
-    omega (arith, length-append (stateLine a r) (stateLines (take k xs) (take k ys)), line-length a r, lines-length k xs ys (le-of-suc-le-suc h) (le-of-suc-le-suc l))
+    omega (
+      arith,
+      length-append (stateLine a r) (stateLines (take k xs) (take k ys)),
+      line-length a r,
+      lines-length k xs ys (le-of-suc-le-suc h) (le-of-suc-le-suc l),
+    )
 
 -- one state more
-next-line : (k : ℕ) (xs ys : List Float) → k < length xs → k < length ys → stateLines (take k xs) (take k ys) ++ stateLine (getD xs k nan) (getD ys k nan) ≡ stateLines (take (suc k) xs) (take (suc k) ys)
+next-line : (k : ℕ) (xs ys : List Float) → k < length xs → k < length ys
+    → stateLines (take k xs) (take k ys) ++ stateLine (getD xs k nan) (getD ys k nan) ≡ stateLines (take (suc k) xs) (take (suc k) ys)
 unfolding stateLines
 next-line k [] ys h l = absurd (omega arith)
 next-line k (a ∷ xs) [] h l = absurd (omega arith)
@@ -43,7 +50,8 @@ next-line (suc k) (a ∷ xs) (r ∷ ys) h l =
     append-assoc (stateLine a r) (stateLines (take k xs) (take k ys)) (stateLine (getD xs k nan) (getD ys k nan))
     ∙ ap (λ (t : List ℕ). stateLine a r ++ t) (next-line k xs ys (le-of-suc-le-suc h) (le-of-suc-le-suc l))
 
-pub lines-more : (k : ℕ) (xs ys : List Float) → k < length xs → k < length ys → stateLines (take k xs) (take k ys) ++ stateLine (getD xs k nan) (getD ys k nan) ≡ stateLines (take (k + 1) xs) (take (k + 1) ys)
+pub lines-more : (k : ℕ) (xs ys : List Float) → k < length xs → k < length ys
+    → stateLines (take k xs) (take k ys) ++ stateLine (getD xs k nan) (getD ys k nan) ≡ stateLines (take (k + 1) xs) (take (k + 1) ys)
 lines-more k xs ys h l = rw add-one (next-line k xs ys h l)
 
 -- ---- the whole text
@@ -64,13 +72,14 @@ module _
     (old : List ℕ)
   where
     abbrev text : List ℕ
-    text = steadyText (replyOf number time n maximum amounts residual)
+    text = steadyText (steadyResult number time n maximum amounts residual)
 
     text-length : length text ≡ size
     unfolding steadyText
     text-length = go (eqb number 0) ∙ sym counted
       where
-        go : (t : Bool) → length (steadyText (cond t (got (solvedOf n maximum amounts residual)) (stopped number time))) ≡ cond t (solvedLength n) (26 + places 19 number)
+        go : (t : Bool) → length (steadyText (cond t (got (solvedOf n maximum amounts residual)) (stopped number time)))
+            ≡ cond t (solvedLength n) (26 + places 19 number)
         go true = solved-length n maximum amounts residual held beside
         go false = refused-text-length number time
 
@@ -83,7 +92,8 @@ module _
     pub refusal-fits : size ≤ length old → (number ≡ 0 → ⊥) → length (refusedText number time) ≤ length old
     refusal-fits h z = rw (refused-text-length number time) (rw (counted, ne-eqb number 0 z) at h)
 
-    pub solved-printed : {r : ℕ} {new : List ℕ} → size ≤ length old → number ≡ 0 → Wrote (solvedText (solvedOf n maximum amounts residual)) 0 old r new → Printed text old r new
+    pub solved-printed : {r : ℕ} {new : List ℕ} → size ≤ length old → number ≡ 0
+        → Wrote (solvedText (solvedOf n maximum amounts residual)) 0 old r new → Printed text old r new
     unfolding steadyText
     solved-printed h z w = rw (eq-eqb number 0 z) (with-room _ old (rw (solved-length n maximum amounts residual held beside) (solved-fits h z)) w)
 

@@ -6,7 +6,7 @@ use lib.Dec.{eqb}
 use lib.ListN.{take}
 use lib.Ieee.{Float}
 use Rattle.printout.specs.Printout.{places, doubleText, refusedText}
-use Rattle.cycle.specs.Closed.{Timed, stopped, got, Solved}
+use Rattle.cycle.specs.Closed.{Timed, stopped, got, SteadyState}
 
 -- amount and residual of a state
 unfoldable pub stateLine : Float → Float → List ℕ
@@ -20,22 +20,22 @@ stateLines (a ∷ amounts) (r ∷ residuals) = stateLine a r ++ stateLines amoun
 
 -- "max" and the greatest scaled residual
 unfoldable pub maxLine : Float → List ℕ
-maxLine greatest = (109 ∷ 97 ∷ 120 ∷ 32 ∷ []) ++ doubleText greatest ++ (10 ∷ [])
+maxLine maximum = (109 ∷ 97 ∷ 120 ∷ 32 ∷ []) ++ doubleText maximum ++ (10 ∷ [])
 
-unfoldable pub solvedText : Solved → List ℕ
-solvedText s = stateLines (s .amounts) (s .residuals) ++ maxLine (s .greatest)
+unfoldable pub solvedText : SteadyState → List ℕ
+solvedText s = stateLines (s .amounts) (s .residuals) ++ maxLine (s .maximum)
 
 -- ---- the whole text
-unfoldable pub steadyText : Timed Solved → List ℕ
+unfoldable pub steadyText : Timed SteadyState → List ℕ
 steadyText (stopped number time) = refusedText number time
 steadyText (got s) = solvedText s
 
 -- ---- the reply in the code's arguments: the number 0 stands for no refusal, n states stand in front of the two slices
-abbrev pub solvedOf : ℕ → Float → List Float → List Float → Solved
-solvedOf n maximum amounts residual = record { amounts = take n amounts; residuals = take n residual; greatest = maximum }
+abbrev pub solvedOf : ℕ → Float → List Float → List Float → SteadyState
+solvedOf n maximum amounts residual = record { amounts = take n amounts; residuals = take n residual; maximum = maximum }
 
-abbrev pub replyOf : ℕ → Float → ℕ → Float → List Float → List Float → Timed Solved
-replyOf number time n maximum amounts residual = cond (eqb number 0) (got (solvedOf n maximum amounts residual)) (stopped number time)
+abbrev pub steadyResult : ℕ → Float → ℕ → Float → List Float → List Float → Timed SteadyState
+steadyResult number time n maximum amounts residual = cond (eqb number 0) (got (solvedOf n maximum amounts residual)) (stopped number time)
 
 -- ---- its length
 abbrev pub solvedLength : ℕ → ℕ

@@ -2,13 +2,13 @@
 use mathlib.Core.List.{List}
 use Prim.Native.Nat.{ℕ}
 use lib.Ieee.{Float}
-use Rattle.cycle.specs.Closed.{Timed, Solved, SteadyReply, steadyReplyOf}
+use Rattle.cycle.specs.Closed.{Timed, SteadyState, SteadyReport, steadyReportOf}
 use Rattle.printout.specs.Printouts.{Printout}
-use Rattle.printout_steady.specs.SteadyPrintout.{steadyText, replyOf}
+use Rattle.printout_steady.specs.SteadyPrintout.{steadyText, steadyResult}
 
-abbrev pub steadyPrintout : Timed Solved → Printout
-steadyPrintout o = record { number = steadyReplyOf o .number; text = steadyText o }
+abbrev pub steadyPrintout : Timed SteadyState → Printout
+steadyPrintout o = record { number = steadyReportOf o .number; text = steadyText o }
 
 -- the printout of a reply and of n states in front of two slices
-abbrev pub printoutOf : SteadyReply → ℕ → List Float → List Float → Printout
-printoutOf r n amounts residual = record { number = r .number; text = steadyText (replyOf (r .number) (r .time) n (r .greatest) amounts residual) }
+abbrev pub steadyPrintoutOf : SteadyReport → ℕ → List Float → List Float → Printout
+steadyPrintoutOf r n amounts residual = record { number = r .number; text = steadyText (steadyResult (r .number) (r .time) n (r .maximum) amounts residual) }

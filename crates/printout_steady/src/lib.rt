@@ -9,11 +9,13 @@ use refusal::Reply;
 ghost use mathlib.Core.Path.{_≡_};
 ghost use Prim.Native.Nat.{_+_, _*_, _≤_};
 ghost use lib.ListN.{length, take};
+ghost use Rattle.limits.specs.Limits.{states};
 ghost use Rattle.printout.specs.Cells.{Wrote, printed, printedLength};
-ghost use Rattle.printout_steady.specs.SteadyPrintout.{stateLine, stateLines, maxLine, solvedText, steadyText, solvedOf, replyOf, solvedLength, steadyLength};
+ghost use Rattle.printout_steady.specs.SteadyPrintout.{stateLine, stateLines, maxLine, solvedText, steadyText, solvedOf};
+ghost use Rattle.printout_steady.specs.SteadyPrintout.{steadyResult, solvedLength, steadyLength};
 ghost use Rattle.periodic_acceptance.specs.Entry.{steadyReply};
 ghost use Rattle.printout.specs.Replies.{Prints};
-ghost use Rattle.printout_steady.specs.SteadyReplies.{printoutOf};
+ghost use Rattle.printout_steady.specs.SteadyReplies.{steadyPrintoutOf};
 
 // Amount and residual of a state.
 fn state_line(out: &mut [u8], at: usize, amount: f64, residual: f64) -> usize
@@ -61,7 +63,7 @@ fn put_solved(out: &mut [u8], n: usize, maximum: f64, amounts: &[f64], residual:
 
 // How many bytes the text has.
 fn steady_length(number: u64, n: usize) -> usize
-    requires { ⌜ n ≤ 4 ⌝ }
+    requires { ⌜ n ≤ states ⌝ }
     ensures { λ r. ⌜ r ≡ steadyLength number n ⌝ }
 {
     if number == 0 {
@@ -81,9 +83,10 @@ pub fn print_steady(
     residual: &[f64],
     out: &mut [u8],
 ) -> usize
-    requires { ⌜ (n ≤ length (now amounts)) × (n ≤ length (now residual)) × (n ≤ 4) ⌝ }
-    ensures { λ r. ⌜ r ≡ printedLength (steadyText (replyOf number time n maximum (now (amounts .entry)) (now (residual .entry)))) (now (out .entry)) ⌝ }
-    ensures { λ r. ⌜ now (out .exit) ≡ printed (steadyText (replyOf number time n maximum (now (amounts .entry)) (now (residual .entry)))) (now (out .entry)) ⌝ }
+    requires { ⌜ (n ≤ length (now amounts)) × (n ≤ length (now residual)) × (n ≤ states) ⌝ }
+    ensures { λ r. ⌜ r ≡ printedLength (steadyText (steadyResult number time n maximum (now (amounts .entry)) (now (residual .entry)))) (now (out .entry)) ⌝ }
+    ensures { λ r. ⌜ now (out .exit) ≡ printed (steadyText (steadyResult number time n maximum (now (amounts .entry))
+        (now (residual .entry)))) (now (out .entry)) ⌝ }
 {
     if steady_length(number, n) > out.len() {
         return 0;
@@ -103,8 +106,8 @@ pub fn print_reply(
     residual: &[f64],
     out: &mut [u8],
 ) -> PrintReply
-    requires { ⌜ (n ≤ length (now amounts)) × (n ≤ length (now residual)) × (n ≤ 4) ⌝ }
-    ensures { λ r. ⌜ Prints (printoutOf (steadyReply reply) n (now (amounts .entry)) (now (residual .entry))) (now (out .entry)) r (now (out .exit)) ⌝ }
+    requires { ⌜ (n ≤ length (now amounts)) × (n ≤ length (now residual)) × (n ≤ states) ⌝ }
+    ensures { λ r. ⌜ Prints (steadyPrintoutOf (steadyReply reply) n (now (amounts .entry)) (now (residual .entry))) (now (out .entry)) r (now (out .exit)) ⌝ }
 {
     match reply {
         SteadyReply::Refused { refusal, time } => {

@@ -1,4 +1,5 @@
--- Runs worked out, with an advance that hands the amounts back or adds what runs in: 01's example, P7's plain run, P11, a cut infusion, -0 and +0, the stops 3, 30, 31 and 32, and the
+-- Runs worked out, with an advance that hands the amounts back or adds what runs in: 01's example, P7's plain run, P11, a cut infusion, -0
+-- and +0, the stops 3, 30, 31 and 32, and the
 -- library's run with its slices. At the end: there is a kernel with the laws, so the claims are not empty. Assumes nothing.
 use mathlib.Core.Path.{_≡_, refl, subst}
 use Prim.Native.Nat.{ℕ, _-_, _^_}
@@ -19,16 +20,16 @@ use Rattle.protocol.specs.declared.Window.{Window}
 use Rattle.refusal.specs.Result.{Result, refused, done}
 use Rattle.protocol.specs.Events.{target, isReset, isBolus, running, marks}
 use Rattle.protocol.specs.Prepare.{prepare}
-use Rattle.protocol.specs.Schedule.{flows, rateOf, summed}
+use Rattle.protocol.specs.Schedule.{flows, infusionRate, summed}
 use Rattle.protocol.specs.Execute.{Propagator, Row, Side, Pre, Post, Reading, Outcome, go, stop, dosed, runOf}
-use Rattle.protocol.specs.Entry.{Room, Reply, simulate, replyOf, timesAtExit, sidesAtExit, valuesAtExit}
+use Rattle.protocol.specs.Entry.{Room, RunReport, simulate, reportOf, timesAtExit, sidesAtExit, valuesAtExit}
 use Rattle.protocol.specs.PlainRun.{oneOf, argumentsPass, Conditions, KernelLaws, Prepared, PlainRun}
 use Rattle.protocol.proofs.ListLaws.{both}
 use Rattle.protocol.proofs.Theorems.{plain-run}
 
 -- what a run computes through
 opened : ℕ
-unfolding prepare runOf simulate firsts sortBy totalLe lt le eq add sub mul div neg target isReset isBolus running marks flows rateOf dosed zipWith fits
+unfolding prepare runOf simulate firsts sortBy totalLe lt le eq add sub mul div neg target isReset isBolus running marks flows infusionRate dosed zipWith fits
 opened = 0
 
 unfoldable pub still : Propagator
@@ -85,7 +86,8 @@ pub bolus-at-end-passes : prepare 1 (window plusZero eight) [] (Bolus eight 0 on
 unfolding opened
 bolus-at-end-passes = refl
 
-pub bolus-at-end : rowsOf (runOf still 1 (window plusZero eight) [] (Bolus eight 0 one ∷ []) (three ∷ [])) ≡ row plusZero Post three ∷ row eight Pre three ∷ row eight Post four ∷ []
+pub bolus-at-end : rowsOf (runOf still 1 (window plusZero eight) [] (Bolus eight 0 one ∷ []) (three ∷ []))
+    ≡ row plusZero Post three ∷ row eight Pre three ∷ row eight Post four ∷ []
 unfolding opened still
 bolus-at-end = refl
 
@@ -96,24 +98,28 @@ unfolding opened
 one-order = (refl, refl)
 
 -- of different order they go by order, and the rows' time is -0; the samples there have no row
-by-order : rowsOf (runOf still 1 (window plusZero one) (plusZero ∷ minusZero ∷ []) (Reset plusZero 0 one 1 false ∷ Reset minusZero 0 two 0 false ∷ []) (three ∷ []))
+by-order : rowsOf (runOf still 1 (window plusZero one) (plusZero ∷ minusZero ∷ []) (Reset plusZero 0 one 1 false
+    ∷ Reset minusZero 0 two 0 false ∷ []) (three ∷ []))
     ≡ row minusZero Pre three ∷ row minusZero Post one ∷ row one Post one ∷ []
 unfolding opened still
 by-order = refl
 
 -- ---- an infusion of 4 over 4 from 0, reset to 1 and stopped at 2, read once at 1: its end at 4 still has two rows
 cut-infusion : rowsOf (runOf drift 1 (window plusZero four) (one ∷ one ∷ []) (Infusion plusZero 0 four four ∷ Reset two 0 one 0 true ∷ []) (three ∷ []))
-    ≡ row plusZero Pre three ∷ row plusZero Post three ∷ row one Reading four ∷ row two Pre (fin false 5 (pos 0)) ∷ row two Post one ∷ row four Pre one ∷ row four Post one ∷ []
+    ≡ row plusZero Pre three ∷ row plusZero Post three ∷ row one Reading four ∷ row two Pre (fin false 5 (pos 0)) ∷ row two Post one
+    ∷ row four Pre one ∷ row four Post one ∷ []
 unfolding opened drift
 cut-infusion = refl
 
 -- rates of 2^53, 1 and 1 add to 2^53 in list order, and from the end they would add to 2^53 + 2
-in-list-order : summed 1 plusZero (Infusion plusZero 0 huge one ∷ Infusion plusZero 0 one one ∷ Infusion plusZero 0 one one ∷ []) (false ∷ false ∷ false ∷ []) ≡ huge ∷ []
+in-list-order : summed 1 plusZero (Infusion plusZero 0 huge one ∷ Infusion plusZero 0 one one ∷ Infusion plusZero 0 one one ∷ [])
+    (false ∷ false ∷ false ∷ []) ≡ huge ∷ []
 unfolding opened summed
 in-list-order = refl
 
 -- a stopping reset at an infusion's own instant leaves it running, and so does one on another target
-still-running : rowsOf (runOf drift 2 (window plusZero two) [] (Infusion plusZero 0 two two ∷ Reset plusZero 0 one 0 true ∷ Reset one 1 one 0 true ∷ []) (three ∷ three ∷ []))
+still-running : rowsOf (runOf drift 2 (window plusZero two) [] (Infusion plusZero 0 two two ∷ Reset plusZero 0 one 0 true
+    ∷ Reset one 1 one 0 true ∷ []) (three ∷ three ∷ []))
     ≡ record { time = plusZero; side = Pre; amounts = three ∷ three ∷ [] } ∷ record { time = plusZero; side = Post; amounts = one ∷ three ∷ [] }
     ∷ record { time = one; side = Pre; amounts = two ∷ three ∷ [] } ∷ record { time = one; side = Post; amounts = two ∷ one ∷ [] }
     ∷ record { time = two; side = Pre; amounts = three ∷ one ∷ [] } ∷ record { time = two; side = Post; amounts = three ∷ one ∷ [] } ∷ []
@@ -121,7 +127,8 @@ unfolding opened drift
 still-running = refl
 
 -- a reset goes ahead of a bolus at its time, whatever their order in the list
-reset-first : rowsOf (runOf still 1 (window plusZero one) [] (Bolus plusZero 0 one ∷ Reset plusZero 0 two 0 false ∷ []) (one ∷ [])) ≡ row plusZero Pre one ∷ row plusZero Post three ∷ row one Post three ∷ []
+reset-first : rowsOf (runOf still 1 (window plusZero one) [] (Bolus plusZero 0 one ∷ Reset plusZero 0 two 0 false ∷ []) (one ∷ []))
+    ≡ row plusZero Pre one ∷ row plusZero Post three ∷ row one Post three ∷ []
 unfolding opened still
 reset-first = refl
 
@@ -132,10 +139,10 @@ unfolding opened drift
 infusion-ends = refl
 
 -- ---- stops, as the library replies
-abbrev replied : Outcome → Reply
-replied o = replyOf (done o)
+abbrev replied : Outcome → RunReport
+replied o = reportOf (done o)
 
-abbrev stopped : ℕ → Float → ℕ → Reply
+abbrev stopped : ℕ → Float → ℕ → RunReport
 stopped c t k = record { number = c; time = t; rows = 0; advances = k }
 
 -- a propagation budget of 0: 30 at the first row, and that advance counts
@@ -162,7 +169,8 @@ unfolding opened still
 below-zero = refl
 
 -- rates that add up to no finite double: 32 with time +0
-too-fast : replied (runOf still 1 (window plusZero one) [] (Infusion plusZero 0 most one ∷ Infusion plusZero 0 most one ∷ []) (three ∷ [])) ≡ stopped 32 plusZero 0
+too-fast : replied (runOf still 1 (window plusZero one) [] (Infusion plusZero 0 most one ∷ Infusion plusZero 0 most one ∷ []) (three ∷ []))
+    ≡ stopped 32 plusZero 0
 unfolding opened still
 too-fast = refl
 
@@ -173,7 +181,7 @@ room k = record { times = k; sides = k; values = k }
 abbrev run-example : Result Outcome
 run-example = simulate still none 1 (window plusZero one) [] example (three ∷ []) (room 7)
 
-example-reply : replyOf run-example ≡ record { number = 0; time = plusZero; rows = 3; advances = 1 }
+example-reply : reportOf run-example ≡ record { number = 0; time = plusZero; rows = 3; advances = 1 }
 unfolding opened still
 example-reply = refl
 
@@ -190,7 +198,8 @@ unfolding opened still
 example-values = refl
 
 -- a stopped run leaves the reckoned cells zero
-stopped-values : valuesAtExit 6 1 (simulate still none 1 (window plusZero one) [] (Reset plusZero 0 (neg one) 0 false ∷ []) (three ∷ []) (room 7)) (replicate 7 two)
+stopped-values : valuesAtExit 6 1 (simulate still none 1 (window plusZero one) [] (Reset plusZero 0 (neg one) 0 false ∷ []) (three ∷ [])
+    (room 7)) (replicate 7 two)
     ≡ plusZero ∷ plusZero ∷ plusZero ∷ plusZero ∷ plusZero ∷ plusZero ∷ two ∷ []
 unfolding opened still
 stopped-values = refl
@@ -218,7 +227,16 @@ never c a r d = ⊥
 
 keeper-laws : (n : ℕ) → KernelLaws n (keeper n) never
 unfolding keeper
-keeper-laws n = record { three = λ a r d. (to a r d, fro a r d); numbers = numbers; amounts = amounts; conditions = λ a r d h _ c. (takes a r d h c, λ x. absurd x) }
+keeper-laws n =
+    record {
+      three = λ a r d. (to a r d, fro a r d);
+      numbers = numbers;
+      amounts = amounts;
+      conditions = λ a r d h _ c. (
+        takes a r d h c,
+        λ x. absurd x,
+      );
+    }
   where
     to : (a r : List Float) (d : Float) → keeper n a r d ≡ refused 3 → T (not (argumentsPass n a r d))
     to a r d e = on (argumentsPass n a r d) e

@@ -9,8 +9,10 @@ use lib.Dec.{T, ltb, ltb→lt}
 use lib.ListN.{length, length-append}
 use lib.Ieee.{Float, binary64, sub}
 use Rattle.protocol.specs.Schedule.{Step, check, pre, post, apply, rates, reading, arrive}
-use Rattle.protocol.specs.Execute.{Propagator, Reading, Advance, State, Outcome, go, stop, andThen, withAmounts, withRow, counted, settle, propagate, execute, run}
-use Rattle.protocol.specs.PlainRun.{oneOf, Conditions, Advances, to-reading, to-boundary, Meets, spent, overflows, refuses, state, dose, summed-rates, advancesBy, Budgeted}
+use Rattle.protocol.specs.Execute.{Propagator, Reading, Advance, State, Outcome, go, stop, andThen, withAmounts, withRow}
+use Rattle.protocol.specs.Execute.{withAdvance, afterAdvance, propagate, execute, run}
+use Rattle.protocol.specs.PlainRun.{oneOf, Conditions, Advances, to-reading, to-boundary, Meets, spent, overflows, refuses, state}
+use Rattle.protocol.specs.PlainRun.{dose, summed-rates, advancesBy, Budgeted}
 use Rattle.protocol.proofs.FirstStop.{stop-go, go-same}
 use Rattle.protocol.proofs.Effects.{step-left}
 
@@ -27,12 +29,14 @@ module _ (advance : Propagator) (budget : ℕ) where
   abbrev Few : List Advance → Type 0
   Few m = length m ≤ budget
 
-  room : (t : Float) (r : List Float) (u : Float) (k : List Float → State → State) (s z : State) → propagate advance budget t r u k s ≡ go z → length (s .advances) < budget
+  room : (t : Float) (r : List Float) (u : Float) (k : List Float → State → State) (s z : State) → propagate advance budget t r u k s ≡ go z
+      → length (s .advances) < budget
   unfolding propagate
   room t r u k s z e = on (ltb (length (s .advances)) budget) (ltb→lt (length (s .advances)) budget) e
     where
       on : (b : Bool) → (T b → length (s .advances) < budget)
-          → cond b (settle u (counted t u s) (λ (a : List Float). k a (counted t u s)) (advance (s .amounts) r (sub binary64 u t))) (stop 30 u (counted t u s)) ≡ go z → length (s .advances) < budget
+          → cond b (afterAdvance u (withAdvance t u s) (λ (a : List Float). k a (withAdvance t u s))
+          (advance (s .amounts) r (sub binary64 u t))) (stop 30 u (withAdvance t u s)) ≡ go z → length (s .advances) < budget
       on true f e = f tt
       on false f e = absurd (stop-go e)
 
@@ -70,10 +74,12 @@ module _ (advance : Propagator) (budget : ℕ) where
 other : {budget c k : ℕ} → (c ≡ 30 → ⊥) → k ≤ budget → Budgeted budget c k
 other f h = record { within = λ _. h; beyond = λ q. absurd (f q) }
 
-pub budgeted-meets : {Refuses : Conditions} {budget c : ℕ} {t : Float} {x : Step} {s : State} → Meets Refuses budget c t x s → length (s .advances) ≤ budget → Budgeted budget c (length (s .advances ++ advancesBy x))
+pub budgeted-meets : {Refuses : Conditions} {budget c : ℕ} {t : Float} {x : Step} {s : State} → Meets Refuses budget c t x s
+    → length (s .advances) ≤ budget → Budgeted budget c (length (s .advances ++ advancesBy x))
 budgeted-meets {s = s} (spent to h) f = record { within = λ g. absurd (g refl); beyond = λ _. one-more to (s .advances) ∙ ap suc (le-antisymm f h) }
 budgeted-meets {s = s} (overflows to l h) f = other (λ q. omega arith) (omega (arith, l, one-more to (s .advances)))
-budgeted-meets {s = s} (refuses to l g o h) f = other (λ q. subst (λ (k : ℕ). T (oneOf k (20 ∷ 21 ∷ 22 ∷ []))) q o) (omega (arith, l, one-more to (s .advances)))
+budgeted-meets {s = s} (refuses to l g o h) f = other (λ q. subst (λ (k : ℕ). T (oneOf k (20 ∷ 21 ∷ 22 ∷ []))) q o)
+    (omega (arith, l, one-more to (s .advances)))
 budgeted-meets {s = s} (state h) f = other (λ q. omega arith) (omega (arith, f, no-more (s .advances)))
 budgeted-meets {s = s} (dose h) f = other (λ q. omega arith) (omega (arith, f, no-more (s .advances)))
 budgeted-meets {s = s} (summed-rates h) f = other (λ q. omega arith) (omega (arith, f, no-more (s .advances)))

@@ -21,13 +21,15 @@ pub stop-same : {c d : ℕ} {t u : Float} {y z : State} → stop c t y ≡ stop 
 stop-same e = (cc, cc, cc)
 
 module _ (advance : Propagator) (budget : ℕ) where
-  pub run-append : (xs ys : List Step) (s : State) → run advance budget s (xs ++ ys) ≡ andThen (run advance budget s xs) (λ (z : State). run advance budget z ys)
+  pub run-append : (xs ys : List Step) (s : State) → run advance budget s (xs ++ ys)
+      ≡ andThen (run advance budget s xs) (λ (z : State). run advance budget z ys)
   unfolding run
   run-append [] ys s = refl
   run-append (x ∷ xs) ys s = on (execute advance budget s x) (run-append xs ys)
     where
       on : (o : Outcome) → ((z : State) → run advance budget z (xs ++ ys) ≡ andThen (run advance budget z xs) (λ (z : State). run advance budget z ys))
-          → andThen o (λ (z : State). run advance budget z (xs ++ ys)) ≡ andThen (andThen o (λ (z : State). run advance budget z xs)) (λ (z : State). run advance budget z ys)
+          → andThen o (λ (z : State). run advance budget z (xs ++ ys))
+          ≡ andThen (andThen o (λ (z : State). run advance budget z xs)) (λ (z : State). run advance budget z ys)
       on (go z) ih = ih z
       on (stop c t z) ih = refl
 

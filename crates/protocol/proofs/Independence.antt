@@ -1,4 +1,5 @@
--- Samples and budgets change nothing but the readings: two runs that reach the end and differ in these alone have the same boundary rows, and readings at equal times (==) have
+-- Samples and budgets change nothing but the readings: two runs that reach the end and differ in these alone have the same boundary rows,
+-- and readings at equal times (==) have
 -- the same amounts. Assumes nothing.
 use mathlib.Core.Path.{_≡_, refl, sym, ap, ap₂, _∙_, subst}
 use Prim.Native.Nat.{ℕ, _<_}
@@ -16,11 +17,12 @@ use Rattle.protocol.specs.declared.Event.{Event}
 use Rattle.protocol.specs.declared.Window.{Window}
 use Rattle.binary64.specs.Lists.{pick}
 use Rattle.protocol.specs.Events.{sortedUnique, boundaryTimes, boundaries, hasEvent, resets, boluses, inside}
-use Rattle.protocol.specs.Schedule.{Step, check, pre, post, apply, rates, reading, arrive, summed, marked, atBoundary, onInterval, following, fromFirst, schedule}
+use Rattle.protocol.specs.Schedule.{Step, check, pre, post, apply, rates, reading, arrive, summed, marked, atBoundary, onInterval}
+use Rattle.protocol.specs.Schedule.{following, fromFirst, schedule}
 use Rattle.protocol.specs.Execute.{Propagator, Row, Side, Pre, Post, Reading, State, go, begin, runOf}
 use Rattle.protocol.specs.PlainRun.{Prepared}
 use Rattle.protocol.specs.SamplesApart.{boundaryRows}
-use Rattle.protocol.proofs.ListLaws.{both, All-map, All-append, All-keep, All-member}
+use Rattle.protocol.proofs.ListLaws.{both, All-map, All-append, All-filter, All-member}
 use Rattle.protocol.proofs.Times.{Inner, good, passed, boundaries-in, boundaries-rise, readings-in}
 use Rattle.protocol.proofs.Effects.{valuesOf, leaves, rowsAll, leavesAll, rows-append, run-left}
 
@@ -54,7 +56,8 @@ bare-interval : (t : Float) (r : List Float) (u : Float) (ss : List Float) → b
 unfolding onInterval
 bare-interval t r u ss = ap (_∷_ (rates r)) (bare-readings t r (inside t u ss) (arrive t r u ∷ []))
 
-bare-following : (n : ℕ) (es : List Event) (ss ss' : List Float) (ms : List Bool) (t : Float) (us : List Float) → bare (following n es ss ms t us) ≡ bare (following n es ss' ms t us)
+bare-following : (n : ℕ) (es : List Event) (ss ss' : List Float) (ms : List Bool) (t : Float) (us : List Float)
+    → bare (following n es ss ms t us) ≡ bare (following n es ss' ms t us)
 unfolding following
 bare-following n es ss ss' ms t [] = refl
 bare-following n es ss ss' ms t (u ∷ us) =
@@ -88,16 +91,19 @@ module _ (advance : Propagator) where
   bare-rows (reading t r u ∷ xs) a = bare-rows xs a
   bare-rows (arrive t r u ∷ xs) a = bare-rows xs (leaves advance a (arrive t r u))
 
-  run-rows : (n : ℕ) (w : Window) (ss : List Float) (es : List Event) (a : List Float) (z : State) → runOf advance n w ss es a ≡ go z → z .rows ≡ rowsAll advance a (schedule n w ss es)
+  run-rows : (n : ℕ) (w : Window) (ss : List Float) (es : List Event) (a : List Float) (z : State) → runOf advance n w ss es a ≡ go z
+      → z .rows ≡ rowsAll advance a (schedule n w ss es)
   unfolding runOf
   run-rows n w ss es a z e = run-left advance (w .propagations) (schedule n w ss es) (begin a) z e .rows
 
-  pub same-boundary-rows : (n : ℕ) (w w' : Window) (ss ss' : List Float) (es : List Event) (a : List Float) (z z' : State) → w .start ≡ w' .start → w .end ≡ w' .end
+  pub same-boundary-rows : (n : ℕ) (w w' : Window) (ss ss' : List Float) (es : List Event) (a : List Float) (z z' : State)
+      → w .start ≡ w' .start → w .end ≡ w' .end
       → runOf advance n w ss es a ≡ go z → runOf advance n w' ss' es a ≡ go z' → boundaryRows (z .rows) ≡ boundaryRows (z' .rows)
   unfolding schedule
   same-boundary-rows n w w' ss ss' es a z z' p q e e' =
       ap boundaryRows (run-rows n w ss es a z e) ∙ bare-rows (schedule n w ss es) a
-      ∙ ap (rowsAll advance a) (bare-first n es (sortedUnique ss) (sortedUnique ss') (boundaries w es) ∙ ap (λ (bs : List Float). bare (fromFirst n es (sortedUnique ss') bs)) (same-ends w w' es p q))
+      ∙ ap (rowsAll advance a) (bare-first n es (sortedUnique ss) (sortedUnique ss') (boundaries w es)
+      ∙ ap (λ (bs : List Float). bare (fromFirst n es (sortedUnique ss') bs)) (same-ends w w' es p q))
       ∙ sym (ap boundaryRows (run-rows n w' ss' es a z' e') ∙ bare-rows (schedule n w' ss' es) a)
 
 -- ---- readings
@@ -109,7 +115,8 @@ lt-level-right t s s' h p q e =
 
 lt-level-left : (t s s' : Float) → Real binary64 t → Real binary64 s → Real binary64 s' → T (eq s s') → lt s t ≡ lt s' t
 lt-level-left t s s' h p q e =
-    lt-spot binary64 s t (p .fit) (h .fit) (real-good p .1) (real-good h .1) ∙ ap (λ (x : ℕ). ltb x (spot binary64 t)) (eq→spot binary64 s s' (real-good p) (real-good q) e)
+    lt-spot binary64 s t (p .fit) (h .fit) (real-good p .1) (real-good h .1)
+    ∙ ap (λ (x : ℕ). ltb x (spot binary64 t)) (eq→spot binary64 s s' (real-good p) (real-good q) e)
     ∙ sym (lt-spot binary64 s' t (q .fit) (h .fit) (real-good q .1) (real-good h .1))
 
 -- what a row that is a reading is to fulfil
@@ -175,16 +182,19 @@ module _ (advance : Propagator) where
       let r = summed n t es (marked t es ms) in
       cond (lt t s && lt s u) (valuesOf (advance b r (sub binary64 s t))) (valueAt n es (marked t es ms) (valuesOf (advance b r (sub binary64 u t))) u us s)
 
-  readings-leave : (t : Float) (r : List Float) (us : List Float) (u : Float) (a : List Float) → leavesAll advance a (map (reading t r) us ++ (arrive t r u ∷ [])) ≡ valuesOf (advance a r (sub binary64 u t))
+  readings-leave : (t : Float) (r : List Float) (us : List Float) (u : Float) (a : List Float)
+      → leavesAll advance a (map (reading t r) us ++ (arrive t r u ∷ [])) ≡ valuesOf (advance a r (sub binary64 u t))
   readings-leave t r [] u a = refl
   readings-leave t r (v ∷ vs) u a = readings-leave t r vs u a
 
-  interval-leaves : (t : Float) (r : List Float) (u : Float) (ss : List Float) (a : List Float) → leavesAll advance a (onInterval t r u ss) ≡ valuesOf (advance a r (sub binary64 u t))
+  interval-leaves : (t : Float) (r : List Float) (u : Float) (ss : List Float) (a : List Float)
+      → leavesAll advance a (onInterval t r u ss) ≡ valuesOf (advance a r (sub binary64 u t))
   unfolding onInterval
   interval-leaves t r u ss a = readings-leave t r (inside t u ss) u a
 
   readings-read : (P : Float → List Float → Type 0) (t : Float) (r : List Float) (us : List Float) (u : Float) (a : List Float)
-      → All (λ (s : Float). P s (valuesOf (advance a r (sub binary64 s t)))) us → All (Reads P) (rowsAll advance a (map (reading t r) us ++ (arrive t r u ∷ [])))
+      → All (λ (s : Float). P s (valuesOf (advance a r (sub binary64 s t)))) us
+      → All (Reads P) (rowsAll advance a (map (reading t r) us ++ (arrive t r u ∷ [])))
   readings-read P t r [] u a h = tt
   readings-read P t r (v ∷ vs) u a h = (h .0, readings-read P t r vs u a (h .1))
 
@@ -195,10 +205,11 @@ module _ (advance : Propagator) where
     following-reads ms a t [] p c f = plain-reads P (atBoundary t es) a (boundary-plain t es)
     following-reads ms a t (u ∷ us) p c f =
         subst (All (Reads P)) (sym (rows-append advance a (atBoundary t es) (onInterval t r u ss ++ tail)))
-        (All-append (Reads P) (rowsAll advance a (atBoundary t es)) (rowsAll advance b (onInterval t r u ss ++ tail)) (plain-reads P (atBoundary t es) a (boundary-plain t es))
+        (All-append (Reads P) (rowsAll advance a (atBoundary t es)) (rowsAll advance b (onInterval t r u ss ++ tail))
+        (plain-reads P (atBoundary t es) a (boundary-plain t es))
         (subst (All (Reads P)) (sym (rows-append advance b (onInterval t r u ss) tail))
         (All-append (Reads P) (rowsAll advance b (onInterval t r u ss)) (rowsAll advance (leavesAll advance b (onInterval t r u ss)) tail)
-        (readings-read P t r (inside t u ss) u b (All-map here (inside t u ss) (All-keep (Inner w) (λ (s : Float). lt t s && lt s u) ss samples)))
+        (readings-read P t r (inside t u ss) u b (All-map here (inside t u ss) (All-filter (Inner w) (λ (s : Float). lt t s && lt s u) ss samples)))
         (subst (λ (x : List Float). All (Reads P) (rowsAll advance x tail)) (sym (interval-leaves t r u ss b))
         (following-reads (marked t es ms) d u us (p .1) (c .1) later)))))
       where
@@ -223,15 +234,19 @@ module _ (advance : Propagator) where
         on-false false h v v' s k = k
 
         here : (s : Float) → T (lt t s && lt s u) × Inner w s → P s (valuesOf (advance b r (sub binary64 s t)))
-        here s k = on-true (lt t s && lt s u) (k .0) (valuesOf (advance b r (sub binary64 s t))) (valueAt n es (marked t es ms) d u us s) s (f s (k .1) (both (lt t s) (lt s u) (k .0) .0))
+        here s k =
+            on-true (lt t s && lt s u) (k .0) (valuesOf (advance b r (sub binary64 s t))) (valueAt n es (marked t es ms) d u us s) s
+            (f s (k .1) (both (lt t s) (lt s u) (k .0) .0))
 
         later : (s : Float) → Inner w s → T (lt u s) → P s (valueAt n es (marked t es ms) d u us s)
         later s k l =
-            on-false (lt t s && lt s u) (λ (h : T (lt t s && lt s u)). not-both w u s (p .1 .0) k l (both (lt t s) (lt s u) h .1)) (valuesOf (advance b r (sub binary64 s t))) (valueAt n es (marked t es ms) d u us s) s
+            on-false (lt t s && lt s u) (λ (h : T (lt t s && lt s u)). not-both w u s (p .1 .0) k l (both (lt t s) (lt s u) h .1))
+            (valuesOf (advance b r (sub binary64 s t))) (valueAt n es (marked t es ms) d u us s) s
             (f s k (later-lt w t u s (p .0) (p .1 .0) k (c .0) l))
 
   -- equal times, one value
-  valueAt-level : (w : Window) (n : ℕ) (es : List Event) (s s' : Float) → Real binary64 s → Real binary64 s' → T (eq s s') → (ms : List Bool) (a : List Float) (t : Float) (us : List Float) → All (Inner w) (t ∷ us)
+  valueAt-level : (w : Window) (n : ℕ) (es : List Event) (s s' : Float) → Real binary64 s → Real binary64 s' → T (eq s s')
+      → (ms : List Bool) (a : List Float) (t : Float) (us : List Float) → All (Inner w) (t ∷ us)
       → valueAt n es ms a t us s ≡ valueAt n es ms a t us s'
   unfolding valueAt
   valueAt-level w n es s s' h k e ms a t [] p = refl
@@ -250,8 +265,10 @@ module _ (advance : Propagator) where
       d : List Float
       d = valuesOf (advance b r (sub binary64 u t))
 
-      on : (x x' : Bool) → x ≡ x' → (T x → sub binary64 s t ≡ sub binary64 s' t) → valueAt n es (marked t es ms) d u us s ≡ valueAt n es (marked t es ms) d u us s'
-          → cond x (valuesOf (advance b r (sub binary64 s t))) (valueAt n es (marked t es ms) d u us s) ≡ cond x' (valuesOf (advance b r (sub binary64 s' t))) (valueAt n es (marked t es ms) d u us s')
+      on : (x x' : Bool) → x ≡ x' → (T x → sub binary64 s t ≡ sub binary64 s' t)
+          → valueAt n es (marked t es ms) d u us s ≡ valueAt n es (marked t es ms) d u us s'
+          → cond x (valuesOf (advance b r (sub binary64 s t))) (valueAt n es (marked t es ms) d u us s)
+          ≡ cond x' (valuesOf (advance b r (sub binary64 s' t))) (valueAt n es (marked t es ms) d u us s')
       on true true q f ih = ap (λ (x : Float). valuesOf (advance b r x)) (f tt)
       on false false q f ih = ih
       on true false q f ih = absurd (subst T q tt)
@@ -267,9 +284,11 @@ module _ (advance : Propagator) where
   unfolding fromFirst readsAt
   first-reads w n es ss a [] h p c = tt
   first-reads w n es ss a (t ∷ ts) h p c =
-      following-reads w n es ss h (readsAt n es a (t ∷ ts)) (replicate (length es) false) a t ts p c (λ (s : Float) (k : Inner w s) (l : T (lt t s)). (k .real, refl))
+      following-reads w n es ss h (readsAt n es a (t ∷ ts)) (replicate (length es) false) a t ts p c
+      (λ (s : Float) (k : Inner w s) (l : T (lt t s)). (k .real, refl))
 
-  reads-level : (w : Window) (n : ℕ) (es : List Event) (a : List Float) (bs : List Float) → All (Inner w) bs → (s s' : Float) (v v' : List Float) → T (eq s s') → readsAt n es a bs s v → readsAt n es a bs s' v' → v ≡ v'
+  reads-level : (w : Window) (n : ℕ) (es : List Event) (a : List Float) (bs : List Float) → All (Inner w) bs
+      → (s s' : Float) (v v' : List Float) → T (eq s s') → readsAt n es a bs s v → readsAt n es a bs s' v' → v ≡ v'
   unfolding readsAt
   reads-level w n es a [] p s s' v v' e h k = absurd h
   reads-level w n es a (t ∷ ts) p s s' v v' e h k = sym (h .1) ∙ valueAt-level w n es s s' (h .0) (k .0) e (replicate (length es) false) a t ts p ∙ k .1
@@ -277,18 +296,22 @@ module _ (advance : Propagator) where
   reading-of : (P : Float → List Float → Type 0) (r : Row) → r .side ≡ Reading → Reads P r → P (r .time) (r .amounts)
   reading-of P r e h = subst (λ (d : Side). onReading d (P (r .time) (r .amounts))) e h
 
-  run-reads : (n : ℕ) (w : Window) (ss : List Float) (es : List Event) (a : List Float) (z : State) → Prepared n w ss es → runOf advance n w ss es a ≡ go z → All (Reads (readsAt n es a (boundaries w es))) (z .rows)
+  run-reads : (n : ℕ) (w : Window) (ss : List Float) (es : List Event) (a : List Float) (z : State) → Prepared n w ss es
+      → runOf advance n w ss es a ≡ go z → All (Reads (readsAt n es a (boundaries w es))) (z .rows)
   unfolding schedule
   run-reads n w ss es a z g e =
       let k = passed g in
       subst (All (Reads (readsAt n es a (boundaries w es)))) (sym (run-rows advance n w ss es a z e))
       (first-reads w n es (sortedUnique ss) a (boundaries w es) (readings-in k) (boundaries-in k) (boundaries-rise k))
 
-  pub same-readings : (n : ℕ) (w w' : Window) (ss ss' : List Float) (es : List Event) (a : List Float) (z z' : State) → Prepared n w ss es → Prepared n w' ss' es → w .start ≡ w' .start → w .end ≡ w' .end
+  pub same-readings : (n : ℕ) (w w' : Window) (ss ss' : List Float) (es : List Event) (a : List Float) (z z' : State) → Prepared n w ss es
+      → Prepared n w' ss' es → w .start ≡ w' .start → w .end ≡ w' .end
       → runOf advance n w ss es a ≡ go z → runOf advance n w' ss' es a ≡ go z'
-      → (r r' : Row) → List·Memᴰ r (z .rows) → List·Memᴰ r' (z' .rows) → r .side ≡ Reading → r' .side ≡ Reading → T (eq (r .time) (r' .time)) → r .amounts ≡ r' .amounts
+      → (r r' : Row) → List·Memᴰ r (z .rows) → List·Memᴰ r' (z' .rows) → r .side ≡ Reading → r' .side ≡ Reading
+      → T (eq (r .time) (r' .time)) → r .amounts ≡ r' .amounts
   same-readings n w w' ss ss' es a z z' g g' p q e e' r r' m m' d d' l =
       reads-level w n es a (boundaries w es) (boundaries-in (passed g)) (r .time) (r' .time) (r .amounts) (r' .amounts) l
       (reading-of (readsAt n es a (boundaries w es)) r d (All-member (Reads (readsAt n es a (boundaries w es))) r (z .rows) (run-reads n w ss es a z g e) m))
       (subst (λ (bs : List Float). readsAt n es a bs (r' .time) (r' .amounts)) (sym (same-ends w w' es p q))
-      (reading-of (readsAt n es a (boundaries w' es)) r' d' (All-member (Reads (readsAt n es a (boundaries w' es))) r' (z' .rows) (run-reads n w' ss' es a z' g' e') m')))
+      (reading-of (readsAt n es a (boundaries w' es)) r' d' (All-member (Reads (readsAt n es a (boundaries w' es))) r' (z' .rows)
+      (run-reads n w' ss' es a z' g' e') m')))

@@ -5,7 +5,7 @@ use mathlib.Core.List.{List, [], _∷_, _++_, List·Memᴰ, List·Memᴰ·not-ni
 use mathlib.Core.Logic.{_⊎_, inl, inr}
 use lib.Dec.{T}
 use Rattle.binary64.proofs.Sorted.{All}
-use Rattle.binary64.specs.Lists.{all, pick, keep}
+use Rattle.binary64.specs.Lists.{all, pick, filter}
 
 -- ---- tests
 pub both : (a b : Bool) → T (a && b) → T a × T b
@@ -41,11 +41,11 @@ pub All-append : {A : Type 0} (G : A → Type 0) (xs ys : List A) → All G xs �
 All-append G [] ys h k = k
 All-append G (x ∷ xs) ys h k = (h .0, All-append G xs ys (h .1) k)
 
-pub All-keep : {A : Type 0} (G : A → Type 0) (p : A → Bool) (xs : List A) → All G xs → All (λ (x : A). T (p x) × G x) (keep p xs)
-All-keep G p [] h = tt
-All-keep G p (x ∷ xs) h = on (p x) (λ t. t) (All-keep G p xs (h .1))
+pub All-filter : {A : Type 0} (G : A → Type 0) (p : A → Bool) (xs : List A) → All G xs → All (λ (x : A). T (p x) × G x) (filter p xs)
+All-filter G p [] h = tt
+All-filter G p (x ∷ xs) h = on (p x) (λ t. t) (All-filter G p xs (h .1))
   where
-    on : (b : Bool) → (T b → T (p x)) → All (λ (x : _). T (p x) × G x) (keep p xs) → All (λ (x : _). T (p x) × G x) (pick b x (keep p xs))
+    on : (b : Bool) → (T b → T (p x)) → All (λ (x : _). T (p x) × G x) (filter p xs) → All (λ (x : _). T (p x) × G x) (pick b x (filter p xs))
     on true f r = ((f tt, h .0), r)
     on false f r = r
 

@@ -13,12 +13,12 @@ use Rattle.binary64.proofs.Order.{lt→spot, spot→lt, le→spot, eq→spot, s
 use Rattle.binary64.proofs.Sorted.{All, Chain}
 use Rattle.protocol.specs.declared.Event.{Event}
 use Rattle.protocol.specs.declared.Window.{Window}
-use Rattle.binary64.specs.Lists.{any, keep}
+use Rattle.binary64.specs.Lists.{any, filter}
 use Rattle.protocol.specs.Events.{sortedUnique, boundaryTimes, boundaries, inside}
 use Rattle.protocol.specs.PlainRun.{Prepared, between}
 use Rattle.protocol.proofs.ListLaws.{All-map, All-both}
 use Rattle.protocol.proofs.Times.{Inner, good, Passed, passed, times-in, boundaries-in, boundaries-rise, readings-in}
-use Rattle.protocol.proofs.RowCounts.{bit, count, length-keep, behind, readingsOf, readingsFrom, readings}
+use Rattle.protocol.proofs.RowCounts.{bit, count, length-filter, behind, readingsOf, readingsFrom, readings}
 use Rattle.protocol.proofs.LastRow.{lastOf, Covered, covered-below, before-last, sortedUnique-covers}
 
 abbrev sumOf : (Float → ℕ) → List Float → ℕ
@@ -41,7 +41,8 @@ sum-plus p f (s ∷ ss) = omega (arith, sum-plus p f ss)
 length-readings : (ss : List Float) (t : Float) (us : List Float) → length (readingsOf ss t us) ≡ sumOf (readsIn t us) ss
 length-readings ss t [] = sym (sum-zero ss)
 length-readings ss t (u ∷ us) =
-    length-append (inside t u ss) (readingsOf ss u us) ∙ ap₂ _+_ (length-keep (λ (s : Float). lt t s && lt s u) ss) (length-readings ss u us) ∙ sum-plus (λ (s : Float). lt t s && lt s u) (readsIn u us) ss
+    length-append (inside t u ss) (readingsOf ss u us) ∙ ap₂ _+_ (length-filter (λ (s : Float). lt t s && lt s u) ss)
+    (length-readings ss u us) ∙ sum-plus (λ (s : Float). lt t s && lt s u) (readsIn u us) ss
 
 sum-count : (f : Float → ℕ) (p : Float → Bool) (ss : List Float) → All (λ (s : Float). f s ≡ bit (p s)) ss → sumOf f ss ≡ count p ss
 sum-count f p [] h = refl
@@ -76,7 +77,8 @@ module _ (w : Window) where
       on true f l ih = let e : spot binary64 b ≡ spot binary64 s = eq→spot binary64 b s (good (h .0 .1)) (good g) (f tt) in omega (arith, h .0 .0)
       on false f l ih = ih l
 
-  in-one : (s t : Float) (us : List Float) → Inner w s → All (Inner w) (t ∷ us) → Chain lt (t ∷ us) → spot binary64 s ≤ spot binary64 (lastOf t us) → readsIn t us s ≡ bit (lt t s && not (level us s))
+  in-one : (s t : Float) (us : List Float) → Inner w s → All (Inner w) (t ∷ us) → Chain lt (t ∷ us)
+      → spot binary64 s ≤ spot binary64 (lastOf t us) → readsIn t us s ≡ bit (lt t s && not (level us s))
   unfolding level
   in-one s t [] g p c h = none (lt t s) (λ (l : T (lt t s)). no (lt→spot binary64 t s (good (p .0)) (good g) l))
     where
@@ -89,8 +91,10 @@ module _ (w : Window) where
   in-one s t (u ∷ us) g p c h =
       ap (λ (k : ℕ). bit (lt t s && lt s u) + k) (in-one s u us g (p .1) (c .1) h)
       ∙ one-place (lt t s) (lt s u) (lt u s) (eq u s) (level us s)
-      (λ x y. omega (arith, su x, us' y)) (λ x y. omega (arith, su x, ue y)) (λ x y. omega (arith, ue x, us' y)) some (λ y. spot→lt binary64 t s T' S' (omega (arith, tu, us' y)))
-      (λ (x : T (lt s u)) (y : T (level us s)). none-level s us g (All-both (λ (b : Float). spot binary64 s < spot binary64 b) (Inner w) us (All-map (λ (b : Float) (k : spot binary64 u < spot binary64 b). far b k x) us (behind w u us (p .1) (c .1))) (p .1 .1)) y)
+      (λ x y. omega (arith, su x, us' y)) (λ x y. omega (arith, su x, ue y)) (λ x y. omega (arith, ue x, us' y)) some
+      (λ y. spot→lt binary64 t s T' S' (omega (arith, tu, us' y)))
+      (λ (x : T (lt s u)) (y : T (level us s)). none-level s us g (All-both (λ (b : Float). spot binary64 s < spot binary64 b) (Inner w) us
+      (All-map (λ (b : Float) (k : spot binary64 u < spot binary64 b). far b k x) us (behind w u us (p .1) (c .1))) (p .1 .1)) y)
     where
       S' : Good binary64 s
       S' = good g
@@ -120,9 +124,12 @@ module _ (w : Window) where
       three x y a b c = omega arith
 
       some : (T (lt s u) → ⊥) → (T (eq u s) → ⊥) → (T (lt u s) → ⊥) → ⊥
-      some a b d = three (spot binary64 s) (spot binary64 u) (λ k. a (spot→lt binary64 s u S' U' k)) (λ k. b (spot→eq binary64 u s U' S' k)) (λ k. d (spot→lt binary64 u s U' S' k))
+      some a b d =
+          three (spot binary64 s) (spot binary64 u) (λ k. a (spot→lt binary64 s u S' U' k)) (λ k. b (spot→eq binary64 u s U' S' k))
+          (λ k. d (spot→lt binary64 u s U' S' k))
 
-  covered-above : (x : Float) (k : ℕ) (bs : List Float) → Inner w x → All (Inner w) bs → All (λ (b : Float). k ≤ spot binary64 b) bs → Covered bs x → k ≤ spot binary64 x
+  covered-above : (x : Float) (k : ℕ) (bs : List Float) → Inner w x → All (Inner w) bs → All (λ (b : Float). k ≤ spot binary64 b) bs
+      → Covered bs x → k ≤ spot binary64 x
   covered-above x k [] p q h c = absurd c
   covered-above x k (b ∷ bs) p q h c = on (eq b x) (λ l. l) c (covered-above x k bs p (q .1) (h .1))
     where
@@ -130,7 +137,8 @@ module _ (w : Window) where
       on true f c ih = subst (λ (m : ℕ). k ≤ m) (eq→spot binary64 b x (good (q .0)) (good p) (f tt)) (h .0)
       on false f c ih = ih c
 
-  at-none : (s t : Float) (us : List Float) → Inner w s → All (Inner w) (t ∷ us) → Chain lt (t ∷ us) → spot binary64 t ≤ spot binary64 s → spot binary64 s ≤ spot binary64 (lastOf t us) → readsIn t us s ≡ bit (not (level (t ∷ us) s))
+  at-none : (s t : Float) (us : List Float) → Inner w s → All (Inner w) (t ∷ us) → Chain lt (t ∷ us) → spot binary64 t ≤ spot binary64 s
+      → spot binary64 s ≤ spot binary64 (lastOf t us) → readsIn t us s ≡ bit (not (level (t ∷ us) s))
   unfolding level
   at-none s t us g p c l h = in-one s t us g p c h ∙ on (lt t s) (eq t s) (level us s) apart one
     where
@@ -144,7 +152,9 @@ module _ (w : Window) where
       two x y a b c = omega arith
 
       one : (T (lt t s) → ⊥) → (T (eq t s) → ⊥) → ⊥
-      one x y = two (spot binary64 t) (spot binary64 s) l (λ k. x (spot→lt binary64 t s (good (p .0)) (good g) k)) (λ k. y (spot→eq binary64 t s (good (p .0)) (good g) k))
+      one x y =
+          two (spot binary64 t) (spot binary64 s) l (λ k. x (spot→lt binary64 t s (good (p .0)) (good g) k))
+          (λ k. y (spot→eq binary64 t s (good (p .0)) (good g) k))
 
       on : (a e m : Bool) → (T a → T e → ⊥) → ((T a → ⊥) → (T e → ⊥) → ⊥) → bit (a && not m) ≡ bit (not (e || m))
       on true true m f k = absurd (f tt tt)
@@ -162,15 +172,24 @@ readings-between w ss es h = on (boundaries w es) (boundaries-in k) (boundaries-
     covers : All (Covered (boundaries w es)) (boundaryTimes (w .start) (w .end) es)
     covers = sortedUnique-covers w (boundaryTimes (w .start) (w .end) es) (times-in k)
 
-    on : (bs : List Float) → All (Inner w) bs → Chain lt bs → Covered bs (w .start) → Covered bs (w .end) → length (readingsFrom (sortedUnique ss) bs) ≡ length (keep (λ (s : Float). not (any (λ (b : Float). eq b s) bs)) (sortedUnique ss))
+    on : (bs : List Float) → All (Inner w) bs → Chain lt bs → Covered bs (w .start) → Covered bs (w .end)
+        → length (readingsFrom (sortedUnique ss) bs) ≡ length (filter (λ (s : Float). not (any (λ (b : Float). eq b s) bs))
+        (sortedUnique ss))
     on [] p c a b = absurd a
     on (t ∷ ts) p c a b =
         length-readings (sortedUnique ss) t ts
-        ∙ sum-count (readsIn t ts) (λ (s : Float). not (any (λ (b : Float). eq b s) (t ∷ ts))) (sortedUnique ss) (All-map each (sortedUnique ss) (readings-in k))
-        ∙ sym (length-keep (λ (s : Float). not (any (λ (b : Float). eq b s) (t ∷ ts))) (sortedUnique ss))
+        ∙ sum-count (readsIn t ts) (λ (s : Float). not (any (λ (b : Float). eq b s) (t ∷ ts))) (sortedUnique ss)
+        (All-map each (sortedUnique ss) (readings-in k))
+        ∙ sym (length-filter (λ (s : Float). not (any (λ (b : Float). eq b s) (t ∷ ts))) (sortedUnique ss))
       where
         low : spot binary64 t ≤ spot binary64 (w .start)
-        low = covered-above w (w .start) (spot binary64 t) (t ∷ ts) (k .start-in) p (le-refl (spot binary64 t), All-map (λ (u : Float) (l : spot binary64 t < spot binary64 u). le-of-lt l) ts (behind w t ts p c)) a
+        low =
+            covered-above w (w .start) (spot binary64 t) (t
+            ∷ ts) (k .start-in) p (
+              le-refl (spot binary64 t),
+              All-map (λ (u : Float) (l : spot binary64 t < spot binary64 u). le-of-lt l) ts
+                  (behind w t ts p c),
+            ) a
 
         high : spot binary64 (w .end) ≤ spot binary64 (lastOf t ts)
         high = covered-below w (w .end) (spot binary64 (lastOf t ts)) (t ∷ ts) (k .end-in) p (before-last w t ts p c) b

@@ -1,4 +1,5 @@
--- How many rows and advances: a run makes at most 4·events + samples + 2 rows, wherever it ends. One that reaches the end makes an advance to each boundary behind the first
+-- How many rows and advances: a run makes at most 4·events + samples + 2 rows, wherever it ends. One that reaches the end makes an advance
+-- to each boundary behind the first
 -- and to each reading. Assumes nothing.
 use mathlib.Core.Path.{_≡_, refl, sym, ap, ap₂, _∙_}
 use Prim.Native.Nat.{ℕ, suc, _+_, _-_, _*_, _≤_, _<_, zero-le}
@@ -17,10 +18,11 @@ use Rattle.binary64.proofs.Sorted.{All, Chain}
 use Rattle.protocol.specs.declared.Event.{Event}
 use Rattle.protocol.specs.declared.Event.the-variants.{Bolus, Infusion, Reset}
 use Rattle.protocol.specs.declared.Window.{Window}
-use Rattle.binary64.specs.Lists.{any, pick, keep, gather}
+use Rattle.binary64.specs.Lists.{any, pick, filter, flatMap}
 use Rattle.protocol.specs.Events.{instants, sortedUnique, boundaryTimes, boundaries, hasEvent, resets, boluses, inside}
 use Rattle.protocol.specs.Prepare.{reckoned}
-use Rattle.protocol.specs.Schedule.{Step, check, pre, post, apply, rates, reading, arrive, summed, marked, atBoundary, onInterval, following, fromFirst, schedule, rowCount, total}
+use Rattle.protocol.specs.Schedule.{Step, check, pre, post, apply, rates, reading, arrive, summed, marked, atBoundary, onInterval}
+use Rattle.protocol.specs.Schedule.{following, fromFirst, schedule, rowCount, total}
 use Rattle.protocol.specs.Execute.{Propagator, State, Outcome, go, stop, run, begin, runOf}
 use Rattle.protocol.specs.PlainRun.{Prepared, rowsLeft, advancesBy}
 use Rattle.protocol.proofs.ListLaws.{or-left, or-right, All-map, All-both}
@@ -47,11 +49,12 @@ rowsBy-length advance a (arrive t r u) = refl
 
 rows-length : (advance : Propagator) (xs : List Step) (a : List Float) → length (rowsAll advance a xs) ≡ total rowCount xs
 rows-length advance [] a = refl
-rows-length advance (x ∷ xs) a = length-append (rowsBy advance a x) (rowsAll advance (leaves advance a x) xs) ∙ ap₂ _+_ (rowsBy-length advance a x) (rows-length advance xs (leaves advance a x))
+rows-length advance (x ∷ xs) a = length-append (rowsBy advance a x) (rowsAll advance (leaves advance a x) xs)
+    ∙ ap₂ _+_ (rowsBy-length advance a x) (rows-length advance xs (leaves advance a x))
 
-advances-length : (xs : List Step) → length (gather advancesBy xs) ≡ total advanceCount xs
+advances-length : (xs : List Step) → length (flatMap advancesBy xs) ≡ total advanceCount xs
 advances-length [] = refl
-advances-length (x ∷ xs) = length-append (advancesBy x) (gather advancesBy xs) ∙ ap (_+_ (advanceCount x)) (advances-length xs)
+advances-length (x ∷ xs) = length-append (advancesBy x) (flatMap advancesBy xs) ∙ ap (_+_ (advanceCount x)) (advances-length xs)
 
 -- ---- rows that a run leaves, wherever it ends
 part-total : (f : Step → ℕ) (xs done : List Step) (x : Step) (rest : List Step) → xs ≡ done ++ (x ∷ rest) → total f done ≤ total f xs
@@ -91,7 +94,11 @@ readingsFrom ss (t ∷ ts) = readingsOf ss t ts
 
 total-applies : (t : Float) (es : List Event) → (total rowCount (map (apply t) es) ≡ 0) × (total advanceCount (map (apply t) es) ≡ 0)
 total-applies t [] = (refl, refl)
-total-applies t (e ∷ es) = (zero-add (total rowCount (map (apply t) es)) ∙ total-applies t es .0, zero-add (total advanceCount (map (apply t) es)) ∙ total-applies t es .1)
+total-applies t (e ∷ es) = (
+  zero-add (total rowCount (map (apply t) es))
+      ∙ total-applies t es .0,
+  zero-add (total advanceCount (map (apply t) es)) ∙ total-applies t es .1,
+)
 
 total-boundary : (t : Float) (es : List Event) → (total rowCount (atBoundary t es) ≡ bit (hasEvent t es) + 1) × (total advanceCount (atBoundary t es) ≡ 0)
 unfolding atBoundary
@@ -106,20 +113,28 @@ total-boundary t es = on (hasEvent t es)
     none : total advanceCount (xs ++ (post t ∷ [])) ≡ 0
     none = total-append advanceCount xs (post t ∷ []) ∙ ap (λ (k : ℕ). k + (0 + 0)) (total-applies t (resets t es ++ boluses t es) .1)
 
-    on : (b : Bool) → (0 + total rowCount (pick b (pre t) [] ++ (xs ++ (post t ∷ []))) ≡ bit b + 1) × (0 + total advanceCount (pick b (pre t) [] ++ (xs ++ (post t ∷ []))) ≡ 0)
+    on : (b : Bool) → (0 + total rowCount (pick b (pre t) [] ++ (xs ++ (post t ∷ []))) ≡ bit b + 1)
+        × (0 + total advanceCount (pick b (pre t) [] ++ (xs ++ (post t ∷ []))) ≡ 0)
     on true = (omega (arith, rows), omega (arith, none))
     on false = (omega (arith, rows), omega (arith, none))
 
-total-readings : (f : Step → ℕ) (t : Float) (r : List Float) (us : List Float) (u : Float) → ((v : Float) → f (reading t r v) ≡ 1) → total f (map (reading t r) us ++ (arrive t r u ∷ [])) ≡ length us + f (arrive t r u)
+total-readings : (f : Step → ℕ) (t : Float) (r : List Float) (us : List Float) (u : Float) → ((v : Float) → f (reading t r v) ≡ 1)
+    → total f (map (reading t r) us ++ (arrive t r u ∷ [])) ≡ length us + f (arrive t r u)
 total-readings f t r [] u h = omega arith
 total-readings f t r (v ∷ vs) u h = omega (arith, h v, total-readings f t r vs u h)
 
-total-interval : (t : Float) (r : List Float) (u : Float) (ss : List Float) → (total rowCount (onInterval t r u ss) ≡ length (inside t u ss)) × (total advanceCount (onInterval t r u ss) ≡ length (inside t u ss) + 1)
+total-interval : (t : Float) (r : List Float) (u : Float) (ss : List Float)
+    → (total rowCount (onInterval t r u ss) ≡ length (inside t u ss))
+    × (total advanceCount (onInterval t r u ss) ≡ length (inside t u ss) + 1)
 unfolding onInterval
-total-interval t r u ss = (omega (arith, total-readings rowCount t r (inside t u ss) u (λ v. refl)), omega (arith, total-readings advanceCount t r (inside t u ss) u (λ v. refl)))
+total-interval t r u ss = (
+  omega (arith, total-readings rowCount t r (inside t u ss) u (λ v. refl)),
+  omega (arith, total-readings advanceCount t r (inside t u ss) u (λ v. refl)),
+)
 
 total-following : (n : ℕ) (es : List Event) (ss : List Float) (ms : List Bool) (t : Float) (us : List Float)
-    → (total rowCount (following n es ss ms t us) ≡ boundaryWeight es (t ∷ us) + length (readingsOf ss t us)) × (total advanceCount (following n es ss ms t us) ≡ length us + length (readingsOf ss t us))
+    → (total rowCount (following n es ss ms t us) ≡ boundaryWeight es (t ∷ us) + length (readingsOf ss t us))
+    × (total advanceCount (following n es ss ms t us) ≡ length us + length (readingsOf ss t us))
 unfolding following
 total-following n es ss ms t [] = (omega (arith, total-boundary t es .0), omega (arith, total-boundary t es .1))
 total-following n es ss ms t (u ∷ us) =
@@ -127,8 +142,24 @@ total-following n es ss ms t (u ∷ us) =
     let tail = following n es ss (marked t es ms) u us in
     let l = length-append (inside t u ss) (readingsOf ss u us) in
     let ih = total-following n es ss (marked t es ms) u us in (
-      omega (arith, total-append rowCount (atBoundary t es) (onInterval t r u ss ++ tail), total-append rowCount (onInterval t r u ss) tail, total-boundary t es .0, total-interval t r u ss .0, ih .0, l),
-      omega (arith, total-append advanceCount (atBoundary t es) (onInterval t r u ss ++ tail), total-append advanceCount (onInterval t r u ss) tail, total-boundary t es .1, total-interval t r u ss .1, ih .1, l),
+      omega (
+        arith,
+        total-append rowCount (atBoundary t es) (onInterval t r u ss ++ tail),
+        total-append rowCount (onInterval t r u ss) tail,
+        total-boundary t es .0,
+        total-interval t r u ss .0,
+        ih .0,
+        l,
+      ),
+      omega (
+        arith,
+        total-append advanceCount (atBoundary t es) (onInterval t r u ss ++ tail),
+        total-append advanceCount (onInterval t r u ss) tail,
+        total-boundary t es .1,
+        total-interval t r u ss .1,
+        ih .1,
+        l,
+      ),
     )
 
 -- ---- how many that can be
@@ -181,7 +212,12 @@ module _ (w : Window) where
           omega arith
 
       on : (d : Bool) → (T d → T (eq x b)) → count (λ (b : Float). eq x b) bs ≤ 1 → bit d + count (λ (b : Float). eq x b) bs ≤ 1
-      on true f ih = omega (arith, count-none (λ (b : Float). eq x b) bs (All-map (none (f tt)) bs (All-both (λ (v : Float). spot binary64 b < spot binary64 v) (Inner w) bs (behind b bs p c) (p .1))))
+      on true f ih =
+          omega (
+            arith,
+            count-none (λ (b : Float). eq x b) bs (All-map (none (f tt)) bs
+                (All-both (λ (v : Float). spot binary64 b < spot binary64 v) (Inner w) bs (behind b bs p c) (p .1))),
+          )
       on false f ih = omega arith
 
   count-any : (xs bs : List Float) → All (Inner w) xs → All (Inner w) bs → Chain lt bs → count (λ (b : Float). any (λ (x : Float). eq x b) xs) bs ≤ length xs
@@ -203,10 +239,14 @@ module _ (w : Window) where
 
   levels : (xs : List Float) → All (Inner w) xs → All (λ (b : Float). T (any (λ (x : Float). eq x b) xs)) xs
   levels [] p = tt
-  levels (x ∷ xs) p = (or-left (eq x x) (any (λ (y : Float). eq y x) xs) (level-self x (p .0)), All-map (λ (b : Float) (h : T (any (λ (y : Float). eq y b) xs)). or-right (eq x b) (any (λ (y : Float). eq y b) xs) h) xs (levels xs (p .1)))
+  levels (x ∷ xs) p = (
+    or-left (eq x x) (any (λ (y : Float). eq y x) xs) (level-self x (p .0)),
+    All-map (λ (b : Float) (h : T (any (λ (y : Float). eq y b) xs)). or-right (eq x b) (any (λ (y : Float). eq y b) xs) h) xs
+        (levels xs (p .1)),
+  )
 
   weight-most : (start end : Float) (es : List Event) (bs : List Float) → All (Inner w) (boundaryTimes start end es) → All (Inner w) bs → Chain lt bs
-      → All (λ (b : Float). T (any (λ (x : Float). eq x b) (boundaryTimes start end es))) bs → boundaryWeight es bs ≤ 2 + 2 * length (gather instants es)
+      → All (λ (b : Float). T (any (λ (x : Float). eq x b) (boundaryTimes start end es))) bs → boundaryWeight es bs ≤ 2 + 2 * length (flatMap instants es)
   weight-most start end es bs g p c l =
       omega (
         arith,
@@ -216,12 +256,12 @@ module _ (w : Window) where
         count-or (λ (b : Float). eq end b) (λ (b : Float). hasEvent b es) bs,
         count-one start bs (g .0) p c,
         count-one end bs (g .1 .0) p c,
-        count-any (gather instants es) bs (g .1 .1) p c,
+        count-any (flatMap instants es) bs (g .1 .1) p c,
       )
 
-pub instants-most : (es : List Event) → length (gather instants es) ≤ 2 * length es
+pub instants-most : (es : List Event) → length (flatMap instants es) ≤ 2 * length es
 instants-most [] = zero-le
-instants-most (e ∷ es) = omega (arith, length-append (instants e) (gather instants es), two e, instants-most es)
+instants-most (e ∷ es) = omega (arith, length-append (instants e) (flatMap instants es), two e, instants-most es)
   where
     two : (e : Event) → length (instants e) ≤ 2
     two (Bolus t i a) = omega arith
@@ -229,11 +269,11 @@ instants-most (e ∷ es) = omega (arith, length-append (instants e) (gather inst
     two (Reset t i v o c) = omega arith
 
 -- ---- readings: at most as many as samples
-pub length-keep : (p : Float → Bool) (xs : List Float) → length (keep p xs) ≡ count p xs
-length-keep p [] = refl
-length-keep p (x ∷ xs) = on (p x) (length-keep p xs)
+pub length-filter : (p : Float → Bool) (xs : List Float) → length (filter p xs) ≡ count p xs
+length-filter p [] = refl
+length-filter p (x ∷ xs) = on (p x) (length-filter p xs)
   where
-    on : (b : Bool) → length (keep p xs) ≡ count p xs → length (pick b x (keep p xs)) ≡ bit b + count p xs
+    on : (b : Bool) → length (filter p xs) ≡ count p xs → length (pick b x (filter p xs)) ≡ bit b + count p xs
     on true h = omega arith
     on false h = omega arith
 
@@ -272,10 +312,17 @@ module _ (w : Window) where
   apart-all t u [] p q l h = zero-le
   apart-all t u (s ∷ ss) p q l h = omega (arith, apart t u s p q (h .0) l, apart-all t u ss p q l (h .1))
 
-  readings-most : (ss : List Float) (t : Float) (us : List Float) → All (Inner w) ss → All (Inner w) (t ∷ us) → Chain lt (t ∷ us) → length (readingsOf ss t us) ≤ count (λ (s : Float). lt t s) ss
+  readings-most : (ss : List Float) (t : Float) (us : List Float) → All (Inner w) ss → All (Inner w) (t ∷ us) → Chain lt (t ∷ us)
+      → length (readingsOf ss t us) ≤ count (λ (s : Float). lt t s) ss
   readings-most ss t [] h p c = zero-le
   readings-most ss t (u ∷ us) h p c =
-      omega (arith, length-append (inside t u ss) (readingsOf ss u us), length-keep (λ (s : Float). lt t s && lt s u) ss, apart-all t u ss (p .0) (p .1 .0) (c .0) h, readings-most ss u us h (p .1) (c .1))
+      omega (
+        arith,
+        length-append (inside t u ss) (readingsOf ss u us),
+        length-filter (λ (s : Float). lt t s && lt s u) ss,
+        apart-all t u ss (p .0) (p .1 .0) (c .0) h,
+        readings-most ss u us h (p .1) (c .1),
+      )
 
 -- ---- putting in order makes no list longer
 length-insert : (x : Float) (ys : List Float) → length (insertBy totalLe x ys) ≡ suc (length ys)
@@ -297,7 +344,8 @@ unfolding firstsFrom
 length-firstsFrom x [] = le-refl 1
 length-firstsFrom x (y ∷ ys) = on (eq x y) (length-firstsFrom x ys) (length-firstsFrom y ys)
   where
-    on : (b : Bool) → length (firstsFrom eq x ys) ≤ suc (length ys) → length (firstsFrom eq y ys) ≤ suc (length ys) → length (cond b (firstsFrom eq x ys) (x ∷ firstsFrom eq y ys)) ≤ suc (suc (length ys))
+    on : (b : Bool) → length (firstsFrom eq x ys) ≤ suc (length ys) → length (firstsFrom eq y ys) ≤ suc (length ys)
+        → length (cond b (firstsFrom eq x ys) (x ∷ firstsFrom eq y ys)) ≤ suc (suc (length ys))
     on true h k = omega arith
     on false h k = omega arith
 
@@ -317,12 +365,15 @@ readings w ss es = readingsFrom (sortedUnique ss) (boundaries w es)
 pub schedule-within : (n : ℕ) (w : Window) (ss : List Float) (es : List Event) → Prepared n w ss es → total rowCount (schedule n w ss es) ≤ reckoned ss es
 unfolding schedule boundaries
 schedule-within n w ss es g = on (boundaries w es) (boundaries-in k) (boundaries-rise k)
-    (sortedUnique-all (λ (b : Float). T (any (λ (x : Float). eq x b) (boundaryTimes (w .start) (w .end) es))) (boundaryTimes (w .start) (w .end) es) (levels w (boundaryTimes (w .start) (w .end) es) (times-in k)))
+    (sortedUnique-all (λ (b : Float). T (any (λ (x : Float). eq x b) (boundaryTimes (w .start) (w .end) es)))
+    (boundaryTimes (w .start) (w .end) es) (levels w (boundaryTimes (w .start) (w .end) es) (times-in k)))
   where
     k : Passed w ss es
     k = passed g
 
-    on : (bs : List Float) → All (Inner w) bs → Chain lt bs → All (λ (b : Float). T (any (λ (x : Float). eq x b) (boundaryTimes (w .start) (w .end) es))) bs → total rowCount (fromFirst n es (sortedUnique ss) bs) ≤ reckoned ss es
+    on : (bs : List Float) → All (Inner w) bs → Chain lt bs
+        → All (λ (b : Float). T (any (λ (x : Float). eq x b) (boundaryTimes (w .start) (w .end) es))) bs
+        → total rowCount (fromFirst n es (sortedUnique ss) bs) ≤ reckoned ss es
     on [] p c l = zero-le
     on (t ∷ ts) p c l =
         omega (
@@ -341,12 +392,13 @@ unfolding runOf
 rows-within advance n w ss es g a = le-trans (rows-most advance (w .propagations) a (schedule n w ss es)) (schedule-within n w ss es g)
 
 -- a run that reaches the end makes an advance to each boundary behind the first and to each reading
-pub advances-made : (advance : Propagator) (n : ℕ) (w : Window) (ss : List Float) (es : List Event) (a : List Float) (z : State) → runOf advance n w ss es a ≡ go z
-    → (z .advances ≡ gather advancesBy (schedule n w ss es)) × (length (z .advances) ≡ length (boundaries w es) - 1 + length (readings w ss es))
+pub advances-made : (advance : Propagator) (n : ℕ) (w : Window) (ss : List Float) (es : List Event) (a : List Float) (z : State)
+    → runOf advance n w ss es a ≡ go z
+    → (z .advances ≡ flatMap advancesBy (schedule n w ss es)) × (length (z .advances) ≡ length (boundaries w es) - 1 + length (readings w ss es))
 unfolding runOf schedule readings
 advances-made advance n w ss es a z e = (m, ap length m ∙ advances-length (schedule n w ss es) ∙ on (boundaries w es))
   where
-    m : z .advances ≡ gather advancesBy (schedule n w ss es)
+    m : z .advances ≡ flatMap advancesBy (schedule n w ss es)
     m = run-left advance (w .propagations) (schedule n w ss es) (begin a) z e .advances
 
     on : (bs : List Float) → total advanceCount (fromFirst n es (sortedUnique ss) bs) ≡ length bs - 1 + length (readingsFrom (sortedUnique ss) bs)

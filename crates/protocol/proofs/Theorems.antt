@@ -8,7 +8,7 @@ use lib.ListN.{length}
 use lib.Ieee.{Float}
 use Rattle.protocol.specs.declared.Event.{Event}
 use Rattle.protocol.specs.declared.Window.{Window}
-use Rattle.binary64.specs.Lists.{gather, amountsPass}
+use Rattle.binary64.specs.Lists.{flatMap, amountsPass}
 use Rattle.protocol.specs.Events.{boundaries}
 use Rattle.protocol.specs.Schedule.{schedule}
 use Rattle.protocol.specs.Execute.{Propagator, Advance, State, Outcome, go, stop, begin, runOf}
@@ -23,32 +23,42 @@ use Rattle.protocol.proofs.ReadingCounts.{readings-between}
 use Rattle.protocol.proofs.LastRow.{last-row}
 use Rattle.protocol.proofs.Independence.{same-boundary-rows, same-readings}
 
-gather-snoc : {A B : Type 0} (f : A → List B) (xs : List A) (x : A) → gather f xs ++ f x ≡ gather f (xs ++ (x ∷ []))
-gather-snoc f [] x = sym (append-nil (f x))
-gather-snoc f (y ∷ ys) x = append-assoc (f y) (gather f ys) (f x) ∙ ap (_++_ (f y)) (gather-snoc f ys x)
+flat-map-snoc : {A B : Type 0} (f : A → List B) (xs : List A) (x : A) → flatMap f xs ++ f x ≡ flatMap f (xs ++ (x ∷ []))
+flat-map-snoc f [] x = sym (append-nil (f x))
+flat-map-snoc f (y ∷ ys) x = append-assoc (f y) (flatMap f ys) (f x) ∙ ap (_++_ (f y)) (flat-map-snoc f ys x)
 
-module _ (n : ℕ) (advance : Propagator) {Refuses : Conditions} (laws : KernelLaws n advance Refuses) (w : Window) (ss : List Float) (es : List Event) (g : Prepared n w ss es) (a : List Float) (fine : T (amountsPass n a)) where
+module _ (n : ℕ) (advance : Propagator) {Refuses : Conditions} (laws : KernelLaws n advance Refuses) (w : Window) (ss : List Float)
+    (es : List Event) (g : Prepared n w ss es) (a : List Float) (fine : T (amountsPass n a)) where
   reached : (z : State) → runOf advance n w ss es a ≡ go z → Reached n w ss es z
   reached z e =
       let m = advances-made advance n w ss es a z e in
-      record { end-row = last-row advance n w ss es g a z e; advances = m .0; count = m .1 ∙ ap (λ (k : ℕ). length (boundaries w es) - 1 + k) (readings-between w ss es g) }
+      record {
+        end-row = last-row advance n w ss es g a z e;
+        advances = m .0;
+        count = m .1
+            ∙ ap (λ (k : ℕ). length (boundaries w es) - 1 + k) (readings-between w ss es g);
+      }
 
   -- a stopped run made the advances up to the refusing one
-  stopped-left : (c : ℕ) (t : Float) (z : State) → runOf advance n w ss es a ≡ stop c t z → (f : FirstMet advance Refuses (w .propagations) (begin a) (schedule n w ss es) c t)
+  stopped-left : (c : ℕ) (t : Float) (z : State) → runOf advance n w ss es a ≡ stop c t z
+      → (f : FirstMet advance Refuses (w .propagations) (begin a) (schedule n w ss es) c t)
       → z .advances ≡ f .left .advances ++ advancesBy (f .step)
   unfolding runOf
   stopped-left c t z e f =
-      let m = meets-stops n advance (w .propagations) laws w (f .left) (run-sound n advance (w .propagations) laws (f .ahead) (begin a) (f .left) (begin-sound n advance laws w ss es g a fine) (f .ran))
+      let m = meets-stops n advance (w .propagations) laws w (f .left) (run-sound n advance (w .propagations) laws (f .ahead) (begin a)
+      (f .left) (begin-sound n advance laws w ss es g a fine) (f .ran))
       (reached-ready n advance laws w ss es g a fine (f .ahead) (f .step) (f .rest) (f .left) (f .parts) (f .ran)) (f .meets) in
-      let q = split-stops advance (w .propagations) (schedule n w ss es) (begin a) c t (m .0) (record { ahead = f .ahead; step = f .step; rest = f .rest; parts = f .parts; left = f .left; ran = f .ran; refuses = m .1 }) in
+      let q = split-stops advance (w .propagations) (schedule n w ss es) (begin a) c t (m .0)
+      (record { ahead = f .ahead; step = f .step; rest = f .rest; parts = f .parts; left = f .left; ran = f .ran; refuses = m .1 }) in
       ap (λ (s : State). s .advances) (stop-same (sym e ∙ q) .2) ∙ stop-left advance (w .propagations) (f .step) (f .left) (m .0) c t (m .1) .1
 
-  stopped-advances : (c : ℕ) (t : Float) (z : State) → runOf advance n w ss es a ≡ stop c t z → (f : FirstMet advance Refuses (w .propagations) (begin a) (schedule n w ss es) c t)
-      → z .advances ≡ gather advancesBy (f .ahead ++ (f .step ∷ []))
+  stopped-advances : (c : ℕ) (t : Float) (z : State) → runOf advance n w ss es a ≡ stop c t z
+      → (f : FirstMet advance Refuses (w .propagations) (begin a) (schedule n w ss es) c t)
+      → z .advances ≡ flatMap advancesBy (f .ahead ++ (f .step ∷ []))
   stopped-advances c t z e f =
       stopped-left c t z e f
       ∙ ap (λ (xs : List Advance). xs ++ advancesBy (f .step)) (run-left advance (w .propagations) (f .ahead) (begin a) (f .left) (f .ran) .advances)
-      ∙ gather-snoc advancesBy (f .ahead) (f .step)
+      ∙ flat-map-snoc advancesBy (f .ahead) (f .step)
 
   ended : (z : State) → runOf advance n w ss es a ≡ go z → length (z .advances) ≤ w .propagations
   unfolding runOf
@@ -57,7 +67,8 @@ module _ (n : ℕ) (advance : Propagator) {Refuses : Conditions} (laws : KernelL
   budgeted : (c : ℕ) (t : Float) (z : State) → runOf advance n w ss es a ≡ stop c t z → Budgeted (w .propagations) c (length (z .advances))
   budgeted c t z e =
       let f = first-met n advance laws w ss es g a fine c t .0 (z, e) in
-      subst (λ (m : List Advance). Budgeted (w .propagations) c (length m)) (sym (stopped-left c t z e f)) (budgeted-meets (f .meets) (run-few advance (w .propagations) (f .ahead) (begin a) (f .left) zero-le (f .ran)))
+      subst (λ (m : List Advance). Budgeted (w .propagations) c (length m)) (sym (stopped-left c t z e f))
+      (budgeted-meets (f .meets) (run-few advance (w .propagations) (f .ahead) (begin a) (f .left) zero-le (f .ran)))
 
   in-cycle : Cycle w → ((z : State) × (runOf advance n w ss es a ≡ go z))
       ⊎ ((c : ℕ) × (t : Float) × (z : State) × (runOf advance n w ss es a ≡ stop c t z) × T (oneOf c (20 ∷ 21 ∷ 22 ∷ 30 ∷ 31 ∷ 32 ∷ [])))

@@ -1,4 +1,5 @@
--- The times of a run whose list is prepared: boundaries and samples lie in the window and rise strictly; rates are at or above 0; an advance lasts a time above 0, in a cycle a finite one.
+-- The times of a run whose list is prepared: boundaries and samples lie in the window and rise strictly; rates are at or above 0; an
+-- advance lasts a time above 0, in a cycle a finite one.
 -- Assumes nothing.
 use mathlib.Core.Path.{_≡_}
 use Prim.Native.Nat.{ℕ, _*_, _≤_, _<_}
@@ -22,11 +23,11 @@ use Rattle.binary64.proofs.Sorted.{All, Chain, sort-all, strict-times}
 use Rattle.protocol.specs.declared.Event.{Event}
 use Rattle.protocol.specs.declared.Event.the-variants.{Bolus, Infusion, Reset}
 use Rattle.protocol.specs.declared.Window.{Window}
-use Rattle.binary64.specs.Lists.{all, gather}
+use Rattle.binary64.specs.Lists.{all, flatMap}
 use Rattle.protocol.specs.First.{unless, firstOf}
 use Rattle.protocol.specs.Events.{time, target, instants, sortedUnique, boundaryTimes, boundaries}
 use Rattle.protocol.specs.Prepare.{windowPasses, within, eventPasses, eventsPass, reckoned, prepare}
-use Rattle.protocol.specs.Schedule.{rateOf}
+use Rattle.protocol.specs.Schedule.{infusionRate}
 use Rattle.protocol.specs.PlainRun.{Prepared, Cycle}
 use Rattle.protocol.proofs.ListLaws.{both, and-T, all→All, All-map, All-append, All-both}
 
@@ -75,14 +76,15 @@ inner w t f h =
 
 -- an infusion's rate is at or above 0
 abbrev pub Rated : Event → Type 0
-Rated e = T (atLeastZero (rateOf e))
+Rated e = T (atLeastZero (infusionRate e))
 
 -- an event's instants lie in the window
 abbrev pub Fine : Window → Event → Type 0
 Fine w e = All (Inner w) (instants e) × Rated e
 
 -- what lies behind t and not behind the end lies in the window
-behind-inner : (w : Window) (t x : Float) → Real binary64 (w .start) → Real binary64 (w .end) → Inner w t → T (fits binary64 x) → T (lt t x) → T (le x (w .end)) → Inner w x
+behind-inner : (w : Window) (t x : Float) → Real binary64 (w .start) → Real binary64 (w .end) → Inner w t → T (fits binary64 x) → T (lt t x)
+    → T (le x (w .end)) → Inner w x
 behind-inner w t x s e h f l k =
     let r : Real binary64 x = record { fit = f; is-finite = between t x (w .end) (h .real .is-finite) (e .is-finite) l k } in
     let a : spot binary64 (w .start) ≤ spot binary64 t = le→spot binary64 (w .start) t (real-good s) (good h) (h .from-start) in
@@ -91,7 +93,7 @@ behind-inner w t x s e h f l k =
 
 module _ (n : ℕ) (w : Window) (start-real : Real binary64 (w .start)) (end-real : Real binary64 (w .end)) where
   fine : (seen : List Event) (e : Event) → T (fits binary64 (time e)) → T (eventPasses n w seen e) → Fine w e
-  unfolding target rateOf
+  unfolding target infusionRate
   fine seen (Bolus t i a) h k =
       let p = both (within w t) (ltb i n && nonnegative a) k in
       ((inner w t h (p .0), tt), tt)
@@ -115,9 +117,9 @@ module _ (n : ℕ) (w : Window) (start-real : Real binary64 (w .start)) (end-rea
       let p = both (eventPasses n w seen x) (eventsPass n w (x ∷ seen) xs) k in
       (fine seen x (h .0) (p .0), fines (x ∷ seen) xs (h .1) (p .1))
 
-gathered : (w : Window) (es : List Event) → All (Fine w) es → All (Inner w) (gather instants es)
+gathered : (w : Window) (es : List Event) → All (Fine w) es → All (Inner w) (flatMap instants es)
 gathered w [] h = tt
-gathered w (e ∷ es) h = All-append (Inner w) (instants e) (gather instants es) (h .0 .0) (gathered w es (h .1))
+gathered w (e ∷ es) h = All-append (Inner w) (instants e) (flatMap instants es) (h .0 .0) (gathered w es (h .1))
 
 -- the facts in one place
 pub record Passed (w : Window) (ss : List Float) (es : List Event) : Type 0 where
@@ -129,7 +131,8 @@ pub record Passed (w : Window) (ss : List Float) (es : List Event) : Type 0 wher
 pub passed : {n : ℕ} {w : Window} {ss : List Float} {es : List Event} → Prepared n w ss es → Passed w ss es
 unfolding prepare
 passed {n} {w} {ss} {es} h =
-    let v = five-pass (leb (length es) (w .events)) (windowPasses w) (all (within w) ss) (eventsPass n w [] es) (leb (reckoned ss es * n) (w .outputs)) (h .passes) in
+    let v = five-pass (leb (length es) (w .events)) (windowPasses w) (all (within w) ss) (eventsPass n w [] es)
+    (leb (reckoned ss es * n) (w .outputs)) (h .passes) in
     let p = both (finite (w .start)) _ (v .1) in
     let q = both (finite (w .end)) _ (p .1) in
     let r = both (lt (w .start) (w .end)) _ (q .1) in
@@ -138,11 +141,24 @@ passed {n} {w} {ss} {es} h =
     let up : spot binary64 (w .start) < spot binary64 (w .end) = lt→spot binary64 (w .start) (w .end) (real-good s) (real-good e) (r .0) in
     let rises = spot→le binary64 (w .start) (w .end) (real-good s) (real-good e) (le-of-lt up) in
     record {
-      start-in = record { real = s; from-start = spot→le binary64 (w .start) (w .start) (real-good s) (real-good s) (le-refl (spot binary64 (w .start))); to-end = rises };
-      end-in = record { real = e; from-start = rises; to-end = spot→le binary64 (w .end) (w .end) (real-good e) (real-good e) (le-refl (spot binary64 (w .end))) };
+      start-in =
+          record {
+            real = s;
+            from-start = spot→le binary64 (w .start) (w .start) (real-good s) (real-good s)
+                (le-refl (spot binary64 (w .start)));
+            to-end = rises;
+          };
+      end-in =
+          record {
+            real = e;
+            from-start = rises;
+            to-end = spot→le binary64 (w .end) (w .end) (real-good e) (real-good e)
+                (le-refl (spot binary64 (w .end)));
+          };
       samples-in =
           All-map (λ (x : Float) (k : T (fits binary64 x) × T (within w x)). inner w x (k .0) (k .1)) ss
-          (All-both (λ (x : Float). T (fits binary64 x)) (λ (x : Float). T (within w x)) ss (all→All (fits binary64) ss (h .samples-fit)) (all→All (within w) ss (v .2)));
+          (All-both (λ (x : Float). T (fits binary64 x)) (λ (x : Float). T (within w x)) ss (all→All (fits binary64) ss (h .samples-fit))
+          (all→All (within w) ss (v .2)));
       events-fine = fines n w s e [] es (all→All (λ (x : Event). fits binary64 (time x)) es (h .times-fit)) (v .3);
     }
 

@@ -10,7 +10,7 @@ use Rattle.binary64.specs.Sort.{sortBy, firsts}
 use Rattle.protocol.specs.declared.Event.{Event}
 use Rattle.protocol.specs.declared.Event.the-variants.{Bolus, Infusion, Reset}
 use Rattle.protocol.specs.declared.Window.{Window}
-use Rattle.binary64.specs.Lists.{any, keep, gather}
+use Rattle.binary64.specs.Lists.{any, filter, flatMap}
 
 abbrev pub time : Event → Float
 time (Bolus t i a) = t
@@ -47,14 +47,14 @@ sortedUnique ts = firsts eq (sortBy totalLe ts)
 
 -- start, end, event times, infusion ends
 abbrev pub boundaryTimes : Float → Float → List Event → List Float
-boundaryTimes start end es = start ∷ end ∷ gather instants es
+boundaryTimes start end es = start ∷ end ∷ flatMap instants es
 
 unfoldable pub boundaries : Window → List Event → List Float
 boundaries w es = sortedUnique (boundaryTimes (w .start) (w .end) es)
 
 -- an event or an infusion's end is at t
 abbrev pub hasEvent : Float → List Event → Bool
-hasEvent t es = any (λ (x : Float). eq x t) (gather instants es)
+hasEvent t es = any (λ (x : Float). eq x t) (flatMap instants es)
 
 -- at t: the resets by order, the boluses in list order
 unfoldable pub isReset : Float → Event → Bool
@@ -71,10 +71,10 @@ abbrev pub byOrder : Event → Event → Bool
 byOrder a b = leb (order a) (order b)
 
 abbrev pub resets : Float → List Event → List Event
-resets t es = sortBy byOrder (keep (isReset t) es)
+resets t es = sortBy byOrder (filter (isReset t) es)
 
 abbrev pub boluses : Float → List Event → List Event
-boluses t es = keep (isBolus t) es
+boluses t es = filter (isBolus t) es
 
 -- an infusion on the target i with time < t < end
 unfoldable pub running : Float → ℕ → Event → Bool
@@ -90,4 +90,4 @@ marks t (Reset s i v o c) e = eq s t && (c && running t i e)
 
 -- the samples strictly inside from t to u
 abbrev pub inside : Float → Float → List Float → List Float
-inside t u ss = keep (λ (s : Float). lt t s && lt s u) ss
+inside t u ss = filter (λ (s : Float). lt t s && lt s u) ss

@@ -55,8 +55,8 @@ withAmounts a s = record { amounts = a; rows = s .rows; advances = s .advances }
 abbrev pub withRow : Float → Side → List Float → State → State
 withRow t d a s = record { amounts = s .amounts; rows = s .rows ++ (record { time = t; side = d; amounts = a } ∷ []); advances = s .advances }
 
-abbrev pub counted : Float → Float → State → State
-counted t u s = record { amounts = s .amounts; rows = s .rows; advances = s .advances ++ (record { origin = t; time = u } ∷ []) }
+abbrev pub withAdvance : Float → Float → State → State
+withAdvance t u s = record { amounts = s .amounts; rows = s .rows; advances = s .advances ++ (record { origin = t; time = u } ∷ []) }
 
 -- 31 unless each amount is finite and at least 0
 abbrev pub checked : Float → State → Outcome
@@ -68,20 +68,20 @@ dosed (Bolus t i a) x = add binary64 x a
 dosed (Infusion t i a d) x = x
 dosed (Reset t i v o c) x = v
 
-abbrev pub applied : Event → List Float → List Float
-applied e xs = set xs (target e) (dosed e (getD xs (target e) nan))
+abbrev pub dosedAmounts : Event → List Float → List Float
+dosedAmounts e xs = set xs (target e) (dosed e (getD xs (target e) nan))
 
 -- goes on with what k makes of the amounts, or stops with the kernel's number at the time u
-abbrev pub settle : Float → State → (List Float → State) → Result (List Float) → Outcome
-settle u s k (done a) = go (k a)
-settle u s k (refused c) = stop c u s
+abbrev pub afterAdvance : Float → State → (List Float → State) → Result (List Float) → Outcome
+afterAdvance u s k (done a) = go (k a)
+afterAdvance u s k (refused c) = stop c u s
 
 module _ (advance : Propagator) (budget : ℕ) where
   -- one more advance, from t to u: beyond the budget it is 30
   unfoldable pub propagate : Float → List Float → Float → (List Float → State → State) → State → Outcome
   propagate t r u k s =
-      let s' = counted t u s in
-      let o = settle u s' (λ (a : List Float). k a s') (advance (s .amounts) r (sub binary64 u t)) in
+      let s' = withAdvance t u s in
+      let o = afterAdvance u s' (λ (a : List Float). k a s') (advance (s .amounts) r (sub binary64 u t)) in
       cond (ltb (length (s .advances)) budget) o (stop 30 u s')
 
   unfoldable pub execute : State → Step → Outcome
@@ -89,7 +89,7 @@ module _ (advance : Propagator) (budget : ℕ) where
   execute s (check t) = checked t s
   execute s (pre t) = go (withRow t Pre (s .amounts) s)
   execute s (post t) = go (withRow t Post (s .amounts) s)
-  execute s (apply t e) = checked t (withAmounts (applied e (s .amounts)) s)
+  execute s (apply t e) = checked t (withAmounts (dosedAmounts e (s .amounts)) s)
   execute s (rates r) = cond (all finite r) (go s) (stop 32 plusZero s)
   execute s (reading t r u) = propagate t r u (λ (a : List Float). withRow u Reading a) s
   execute s (arrive t r u) = propagate t r u (λ (a : List Float). withAmounts a) s

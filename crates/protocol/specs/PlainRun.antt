@@ -1,4 +1,5 @@
--- Demand 3's claim about a plain run, over all kernels with the laws below, windows, lists that the preparation passes, and amounts that are finite and at least 0. A claim, no proof.
+-- Demand 3's claim about a plain run, over all kernels with the laws below, windows, lists that the preparation passes, and amounts that
+-- are finite and at least 0. A claim, no proof.
 use mathlib.Core.Path.{_≡_}
 use Prim.Native.Nat.{ℕ, suc, _+_, _-_, _≤_, _<_}
 use mathlib.Core.Bool.{Bool, not, _&&_}
@@ -12,12 +13,12 @@ use lib.Ieee.Scale.{finite}
 use Rattle.binary64.specs.Doubles.{plusZero, nonnegative}
 use Rattle.protocol.specs.declared.Event.{Event}
 use Rattle.protocol.specs.declared.Window.{Window}
-use Rattle.binary64.specs.Lists.{any, all, keep, gather, amountsPass}
+use Rattle.binary64.specs.Lists.{any, all, filter, flatMap, amountsPass}
 use Rattle.refusal.specs.Result.{refused, done}
 use Rattle.protocol.specs.Events.{time, sortedUnique, boundaries}
 use Rattle.protocol.specs.Prepare.{reckoned, prepare}
 use Rattle.protocol.specs.Schedule.{Step, check, pre, post, apply, rates, reading, arrive, schedule}
-use Rattle.protocol.specs.Execute.{Propagator, Row, Post, Advance, State, Outcome, go, stop, applied, begin, run, runOf}
+use Rattle.protocol.specs.Execute.{Propagator, Row, Post, Advance, State, Outcome, go, stop, dosedAmounts, begin, run, runOf}
 
 -- ---- what is given
 abbrev pub oneOf : ℕ → List ℕ → Bool
@@ -38,7 +39,8 @@ pub record KernelLaws (n : ℕ) (advance : Propagator) (Refuses : Conditions) : 
   pub numbers : (a r : List Float) (d : Float) (c : ℕ) → advance a r d ≡ refused c → T (oneOf c (3 ∷ 20 ∷ 21 ∷ 22 ∷ []))
   pub amounts : (a r : List Float) (d : Float) (v : List Float) → advance a r d ≡ done v → T (amountsPass n v)
   -- where they pass and the duration is not 0, a number exactly where its condition holds
-  pub conditions : (a r : List Float) (d : Float) → T (argumentsPass n a r d) → T (not (eq d plusZero)) → (c : ℕ) → (advance a r d ≡ refused c) ↔ Refuses c a r d
+  pub conditions : (a r : List Float) (d : Float) → T (argumentsPass n a r d) → T (not (eq d plusZero)) → (c : ℕ)
+      → (advance a r d ≡ refused c) ↔ Refuses c a r d
 
 -- the times are doubles, and no test of the preparation refuses
 pub record Prepared (n : ℕ) (w : Window) (ss : List Float) (es : List Event) : Type 0 where
@@ -63,13 +65,15 @@ pub data Meets (Refuses : Conditions) (budget : ℕ) : ℕ → Float → Step �
   -- 30: the budget is spent; the row's time
   spent : {t : Float} {r : List Float} {u : Float} {x : Step} {s : State} → Advances x t r u → budget ≤ length (s .advances) → Meets Refuses budget 30 u x s
   -- 3: u − t overflows; the row's time
-  overflows : {t : Float} {r : List Float} {u : Float} {x : Step} {s : State} → Advances x t r u → length (s .advances) < budget → T (not (finite (sub binary64 u t))) → Meets Refuses budget 3 u x s
+  overflows : {t : Float} {r : List Float} {u : Float} {x : Step} {s : State} → Advances x t r u → length (s .advances) < budget
+      → T (not (finite (sub binary64 u t))) → Meets Refuses budget 3 u x s
   -- 20, 21, 22: u − t is finite, and over it the number's condition holds; the row's time
-  refuses : {t : Float} {r : List Float} {u : Float} {c : ℕ} {x : Step} {s : State} → Advances x t r u → length (s .advances) < budget → T (finite (sub binary64 u t))
+  refuses : {t : Float} {r : List Float} {u : Float} {c : ℕ} {x : Step} {s : State} → Advances x t r u → length (s .advances) < budget
+      → T (finite (sub binary64 u t))
       → T (oneOf c (20 ∷ 21 ∷ 22 ∷ [])) → Refuses c (s .amounts) r (sub binary64 u t) → Meets Refuses budget c u x s
   -- 31: an amount is not finite or below 0, at the check or behind a reset or a bolus; the boundary's time
   state : {t : Float} {s : State} → T (not (all nonnegative (s .amounts))) → Meets Refuses budget 31 t (check t) s
-  dose : {t : Float} {e : Event} {s : State} → T (not (all nonnegative (applied e (s .amounts)))) → Meets Refuses budget 31 t (apply t e) s
+  dose : {t : Float} {e : Event} {s : State} → T (not (all nonnegative (dosedAmounts e (s .amounts)))) → Meets Refuses budget 31 t (apply t e) s
   -- 32: a summed rate is not finite; +0
   summed-rates : {r : List Float} {s : State} → T (not (all finite r)) → Meets Refuses budget 32 plusZero (rates r) s
 
@@ -100,7 +104,7 @@ advancesBy (arrive t r u) = record { origin = t; time = u } ∷ []
 
 -- the distinct samples that stand at no boundary
 abbrev pub between : Window → List Float → List Event → List Float
-between w ss es = keep (λ (s : Float). not (any (λ (b : Float). eq b s) (boundaries w es))) (sortedUnique ss)
+between w ss es = filter (λ (s : Float). not (any (λ (b : Float). eq b s) (boundaries w es))) (sortedUnique ss)
 
 -- the last row is the post row at the end, with the amounts that the run leaves
 pub record EndRow (w : Window) (z : State) : Type 0 where
@@ -113,7 +117,7 @@ pub record EndRow (w : Window) (z : State) : Type 0 where
 
 pub record Reached (n : ℕ) (w : Window) (ss : List Float) (es : List Event) (z : State) : Type 0 where
   pub end-row : EndRow w z
-  pub advances : z .advances ≡ gather advancesBy (schedule n w ss es)
+  pub advances : z .advances ≡ flatMap advancesBy (schedule n w ss es)
   -- to each boundary behind the first, and to each distinct sample that stands at no boundary
   pub count : length (z .advances) ≡ length (boundaries w es) - 1 + length (between w ss es)
 
@@ -129,10 +133,12 @@ pub record PlainRun (advance : Propagator) (Refuses : Conditions) (n : ℕ) (w :
   -- where it goes on through the whole schedule it comes to the post row at the end
   pub reached : (z : State) → runOf advance n w ss es a ≡ go z → Reached n w ss es z
   -- it stops with a number and a time exactly where the first step that refuses meets the condition of the number with that time
-  pub exact : (c : ℕ) (t : Float) → ((z : State) × (runOf advance n w ss es a ≡ stop c t z)) ↔ FirstMet advance Refuses (w .propagations) (begin a) (schedule n w ss es) c t
+  pub exact : (c : ℕ) (t : Float) → ((z : State) × (runOf advance n w ss es a ≡ stop c t z))
+      ↔ FirstMet advance Refuses (w .propagations) (begin a) (schedule n w ss es) c t
   -- the advances are those of the steps up to the refusing one, that one too
-  pub advances : (c : ℕ) (t : Float) (z : State) → runOf advance n w ss es a ≡ stop c t z → (f : FirstMet advance Refuses (w .propagations) (begin a) (schedule n w ss es) c t)
-      → z .advances ≡ gather advancesBy (f .ahead ++ (f .step ∷ []))
+  pub advances : (c : ℕ) (t : Float) (z : State) → runOf advance n w ss es a ≡ stop c t z
+      → (f : FirstMet advance Refuses (w .propagations) (begin a) (schedule n w ss es) c t)
+      → z .advances ≡ flatMap advancesBy (f .ahead ++ (f .step ∷ []))
   -- at most the budget, unless it stops with 30; the budget and one then
   pub ended : (z : State) → runOf advance n w ss es a ≡ go z → length (z .advances) ≤ w .propagations
   pub budgeted : (c : ℕ) (t : Float) (z : State) → runOf advance n w ss es a ≡ stop c t z → Budgeted (w .propagations) c (length (z .advances))
@@ -141,5 +147,7 @@ pub record PlainRun (advance : Propagator) (Refuses : Conditions) (n : ℕ) (w :
       ⊎ ((c : ℕ) × (t : Float) × (z : State) × (runOf advance n w ss es a ≡ stop c t z) × T (oneOf c (20 ∷ 21 ∷ 22 ∷ 30 ∷ 31 ∷ 32 ∷ [])))
 
 abbrev pub EveryPlainRun : Type 1
-EveryPlainRun = (n : ℕ) (advance : Propagator) (Refuses : Conditions) → KernelLaws n advance Refuses → (w : Window) (ss : List Float) (es : List Event) → Prepared n w ss es
+EveryPlainRun =
+    (n : ℕ) (advance : Propagator) (Refuses : Conditions) → KernelLaws n advance Refuses → (w : Window) (ss : List Float) (es : List Event)
+    → Prepared n w ss es
     → (a : List Float) → T (amountsPass n a) → PlainRun advance Refuses n w ss es a

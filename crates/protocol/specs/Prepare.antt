@@ -30,14 +30,14 @@ sameReset t o (Infusion s i a d) = false
 sameReset t o (Reset s i v q c) = eq s t && eqb q o
 
 -- an event's values, with those ahead of it in the list
-abbrev pub valuesPass : Window → List Event → Event → Bool
-valuesPass w seen (Bolus t i a) = nonnegative a
-valuesPass w seen (Infusion t i a d) =
+abbrev pub eventValuesPass : Window → List Event → Event → Bool
+eventValuesPass w seen (Bolus t i a) = nonnegative a
+eventValuesPass w seen (Infusion t i a d) =
     nonnegative a && (positive d && (lt t (add binary64 t d) && (le (add binary64 t d) (w .end) && finite (div binary64 a d))))
-valuesPass w seen (Reset t i v o c) = finite v && not (any (sameReset t o) seen)
+eventValuesPass w seen (Reset t i v o c) = finite v && not (any (sameReset t o) seen)
 
 abbrev pub eventPasses : ℕ → Window → List Event → Event → Bool
-eventPasses n w seen e = within w (time e) && (ltb (target e) n && valuesPass w seen e)
+eventPasses n w seen e = within w (time e) && (ltb (target e) n && eventValuesPass w seen e)
 
 -- event by event
 abbrev pub eventsPass : ℕ → Window → List Event → List Event → Bool

@@ -7,7 +7,7 @@ use Prim.Native.Nat.{ℕ}
 use lib.Ieee.{Float, eq}
 use Rattle.protocol.specs.declared.Event.{Event}
 use Rattle.protocol.specs.declared.Window.{Window}
-use Rattle.binary64.specs.Lists.{keep}
+use Rattle.binary64.specs.Lists.{filter}
 use Rattle.protocol.specs.Execute.{Propagator, Side, Pre, Post, Reading, Row, State, go, runOf}
 use Rattle.protocol.specs.PlainRun.{Prepared}
 
@@ -18,13 +18,16 @@ boundarySide Post = true
 boundarySide Reading = false
 
 abbrev pub boundaryRows : List Row → List Row
-boundaryRows rs = keep (λ (r : Row). boundarySide (r .side)) rs
+boundaryRows rs = filter (λ (r : Row). boundarySide (r .side)) rs
 
 -- the same boundary rows, and the same amounts in readings at equal times (==)
 pub record SamplesApart (z z' : State) : Type 0 where
   pub boundary-rows : boundaryRows (z .rows) ≡ boundaryRows (z' .rows)
-  pub readings : (r r' : Row) → List·Memᴰ r (z .rows) → List·Memᴰ r' (z' .rows) → r .side ≡ Reading → r' .side ≡ Reading → T (eq (r .time) (r' .time)) → r .amounts ≡ r' .amounts
+  pub readings : (r r' : Row) → List·Memᴰ r (z .rows) → List·Memᴰ r' (z' .rows) → r .side ≡ Reading → r' .side ≡ Reading
+      → T (eq (r .time) (r' .time)) → r .amounts ≡ r' .amounts
 
 abbrev pub EverySamplesApart : Type 0
-EverySamplesApart = (n : ℕ) (advance : Propagator) (w w' : Window) (ss ss' : List Float) (es : List Event) (a : List Float) → Prepared n w ss es → Prepared n w' ss' es
+EverySamplesApart =
+    (n : ℕ) (advance : Propagator) (w w' : Window) (ss ss' : List Float) (es : List Event) (a : List Float) → Prepared n w ss es
+    → Prepared n w' ss' es
     → w .start ≡ w' .start → w .end ≡ w' .end → (z z' : State) → runOf advance n w ss es a ≡ go z → runOf advance n w' ss' es a ≡ go z' → SamplesApart z z'

@@ -1,4 +1,5 @@
--- 01, "The rows of a run": what a run does, in which order, worked from the arguments alone, as a list of steps. A step holds all that it needs but the amounts.
+-- 01, "The rows of a run": what a run does, in which order, worked from the arguments alone, as a list of steps. A step holds all that it
+-- needs but the amounts.
 -- Rust: the loop of `simulate_matrix`, lib.rs, analytic path. Definitions only.
 use Prim.Native.Nat.{ℕ, _+_}
 use mathlib.Core.Bool.{Bool, false, not, cond, _&&_, _||_}
@@ -37,13 +38,13 @@ flows t (Infusion s i a d) m = not m && (le s t && lt t (add binary64 s d))
 flows t (Reset s i v o c) m = false
 
 -- an infusion's rate
-unfoldable pub rateOf : Event → Float
-rateOf (Bolus t i a) = plusZero
-rateOf (Infusion t i a d) = div binary64 a d
-rateOf (Reset t i v o c) = plusZero
+unfoldable pub infusionRate : Event → Float
+infusionRate (Bolus t i a) = plusZero
+infusionRate (Infusion t i a d) = div binary64 a d
+infusionRate (Reset t i v o c) = plusZero
 
 abbrev pub withRate : Float → Event → Bool → List Float → List Float
-withRate t e m r = cond (flows t e m) (addTo r (target e) (rateOf e)) r
+withRate t e m r = cond (flows t e m) (addTo r (target e) (infusionRate e)) r
 
 -- in list order, each event with its mark
 abbrev pub withRates : Float → List Event → List Bool → List Float → List Float

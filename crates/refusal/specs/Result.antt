@@ -28,6 +28,6 @@ valueOr (refused n) z = z
 valueOr (done a) z = a
 
 -- what a lent slice holds: the value from the front and the old cells behind it; all old cells at a refusal
-abbrev pub laid : {A : Type 0} → Result (List A) → List A → List A
-laid (refused n) old = old
-laid (done xs) old = xs ++ drop (length xs) old
+abbrev pub sliceAtExit : {A : Type 0} → Result (List A) → List A → List A
+sliceAtExit (refused n) old = old
+sliceAtExit (done xs) old = xs ++ drop (length xs) old

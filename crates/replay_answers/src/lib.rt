@@ -1,4 +1,5 @@
-// What programs that replay stored answers share: the text of a line, its parts, the counts of what the lines came to; the comparison of a printout with the stored one.
+// What programs that replay stored answers share: the text of a line, its parts, the counts of what the lines came to; the comparison of a
+// printout with the stored one.
 mod cells;
 mod line;
 mod parts;

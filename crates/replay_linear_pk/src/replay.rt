@@ -68,7 +68,7 @@ fn rates_of(reply: u64, kernel: LinearPk) -> Answer
     ensures { λ r. ⌜ r .count ≤ 11 ⌝ }
 {
     let n = kernel.state_count();
-    let rates = kernel.rates;
+    let rates = kernel.matrix;
     let mut cells = [0.0f64; CELLS];
     let mut count = 0usize;
     for c in 0..16usize {

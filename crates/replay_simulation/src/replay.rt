@@ -13,7 +13,7 @@ use crate::shape::EXCHANGE;
 use crate::shape::FIRST_EVENT;
 use crate::shape::Shape;
 use crate::shape::WINDOW;
-use events::EVENTS;
+use limits::EVENTS;
 use protocol::Event;
 use refusal::Refusal;
 use replay_answers::Outcome;

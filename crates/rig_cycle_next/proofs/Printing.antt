@@ -13,7 +13,7 @@ use Rattle.printout.specs.Cells.{printed, printedLength}
 use Rattle.printout.proofs.Lengths.{part-size}
 use Rattle.cycle.specs.declared.SteadyStateTolerance.{SteadyStateTolerance}
 use Rattle.cycle.specs.Closed.{Timed, stopped, got}
-use Rattle.printout.specs.Printouts.{numberOf}
+use Rattle.printout.specs.Printouts.{numberOrShort}
 use Rattle.printout.specs.Replies.{Prints}
 use Rattle.printout.specs.declared.PrintReply.{PrintReply}
 use Rattle.printout.proofs.Replies.{refusal-some, prints}
@@ -43,15 +43,22 @@ module _ (tol : SteadyStateTolerance) (n : ℕ) (starts residuals values : List 
   ending = record { tolerance = tol; starts = starts; ends = take n (drop from values); residuals = residuals }
 
   same-cycle : cycleOf tol n starts (take (from + n - from) (drop from values)) residuals ≡ ending
-  same-cycle = rw (part-size from n, take-all n starts (omega arith), take-all n residuals (omega arith), take-all n (take n (drop from values)) (omega (arith, length-take n (drop from values))))
+  same-cycle =
+      rw (
+        part-size from n,
+        take-all n starts (omega arith),
+        take-all n residuals (omega arith),
+        take-all n (take n (drop from values)) (omega (arith, length-take n (drop from values))),
+      )
 
-  pub next-prints : {o : Timed NextCycle} → o ≡ got ending → {tol' : SteadyStateTolerance} {m : ℕ} → tol' ≡ tol → m ≡ n → {old new : List ℕ} {reply : PrintReply} {length' : ℕ}
-      → replyNumber (reply .reply) ≡ numberOf 0 (eqb length' 0) → reply .length ≡ length'
+  pub next-prints : {o : Timed NextCycle} → o ≡ got ending → {tol' : SteadyStateTolerance} {m : ℕ} → tol' ≡ tol → m ≡ n
+      → {old new : List ℕ} {reply : PrintReply} {length' : ℕ}
+      → replyNumber (reply .reply) ≡ numberOrShort 0 (eqb length' 0) → reply .length ≡ length'
       → length' ≡ printedLength (linesText (cycleOf tol' m starts (take (from + m - from) (drop from values)) residuals)) old
       → new ≡ printed (linesText (cycleOf tol' m starts (take (from + m - from) (drop from values)) residuals)) old → Prints (cyclePrintout o) old reply new
   unfolding cycleText
   next-prints {o} e {tol'} {m} t d {old} {new} {reply} {length'} a b written cells =
-      prints text (text-some o) (a ∙ ap (λ (x : Timed NextCycle). numberOf (timedNumber x) (eqb length' 0)) (sym e)) b written cells
+      prints text (text-some o) (a ∙ ap (λ (x : Timed NextCycle). numberOrShort (timedNumber x) (eqb length' 0)) (sym e)) b written cells
     where
       text : linesText (cycleOf tol' m starts (take (from + m - from) (drop from values)) residuals) ≡ cycleText o
       text = rw (t, d, e) (ap linesText same-cycle)

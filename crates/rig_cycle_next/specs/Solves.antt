@@ -2,8 +2,8 @@
 use mathlib.Core.Path.{_≡_}
 use mathlib.Core.List.{List}
 use lib.Ieee.{Float}
-use Rattle.cycle.specs.Closed.{Timed, got, Solved}
+use Rattle.cycle.specs.Closed.{Timed, got, SteadyState}
 
-pub record Solves (o : Timed Solved) (amounts residual : List Float) : Type 0 where
-  pub greatest : Float
-  pub solved : o ≡ got (record { amounts = amounts; residuals = residual; greatest = greatest })
+pub record Solves (o : Timed SteadyState) (amounts residual : List Float) : Type 0 where
+  pub maximum : Float
+  pub solved : o ≡ got (record { amounts = amounts; residuals = residual; maximum = maximum })

@@ -1,5 +1,6 @@
 // The run of one more cycle from the amounts of a closed one, and its printout.
 use fold_list::events_in;
+use limits::EVENT_BYTES;
 use linear_pk::LinearPk;
 use periodic_next::simulate_cycle;
 use printout::PrintReply;
@@ -9,6 +10,7 @@ use sheet_kernel::tolerance_of;
 ghost use mathlib.Core.Path.{_≡_};
 ghost use Prim.Native.Nat.{_+_, _/_, _≤_};
 ghost use lib.ListN.{length, take, drop};
+ghost use Rattle.limits.specs.Limits.{mostCycleEvents, mostSamples, eventSize, cycleRows, cycleValues};
 ghost use Rattle.refusal.specs.Result.{done};
 ghost use Rattle.linear_pk.specs.LinearPk.{sound, stateCount};
 ghost use Rattle.cycle.specs.Closed.{got};
@@ -19,9 +21,6 @@ ghost use Rattle.rig_cycle_next.specs.NextRun.{nextWith};
 ghost use Rattle.rig_cycle_next.specs.Solves.{Solves};
 ghost use Rattle.printout.specs.Replies.{Prints};
 ghost use Rattle.rig_cycle_next.specs.NextPrintout.{cyclePrintout};
-
-// Bytes of an event.
-const EVENT: usize = 48;
 
 // The cycle of a kernel and the other bodies, folded and run from the amounts that solve it: the place in the values from which those at its end stand.
 pub fn run_next(
@@ -36,16 +35,23 @@ pub fn run_next(
     sides: &mut [u8],
     values: &mut [f64],
 ) -> usize
-    requires { ⌜ (sound kernel ≡ done kernel) × (72 ≤ length (now window)) × (length (now events) / 8 / 6 ≤ 64) × (length (now samples) / 8 ≤ 256) × (length (now readings) ≡ length (now samples) / 8)
+    requires { ⌜ (sound kernel ≡ done kernel) × (72 ≤ length (now window)) × (length (now events) / 8 / eventSize ≤ mostCycleEvents)
+        × (length (now samples) / 8 ≤ mostSamples) × (length (now readings) ≡ length (now samples) / 8)
         × Solves (steadyWith kernel (wordsOf (now window)) (wordsOf (now samples)) (wordsOf (now events))) (now amounts) (now residual)
-        × (770 ≤ length (now times)) × (770 ≤ length (now sides)) × (3080 ≤ length (now values)) ⌝ }
+        × (cycleRows ≤ length (now times)) × (cycleRows ≤ length (now sides)) × (cycleValues ≤ length (now values)) ⌝ }
     ensures { λ r. ⌜ (r + stateCount kernel ≤ length (now (values .exit)))
         × (nextWith kernel (wordsOf (now (window .entry))) (wordsOf (now (samples .entry))) (wordsOf (now (events .entry)))
-        ≡ got (record { tolerance = toleranceOf (wordsOf (now (window .entry))); starts = now (amounts .entry); ends = take (stateCount kernel) (drop r (now (values .exit))); residuals = now (residual .entry) })) ⌝ }
+        ≡ got (record {
+          tolerance = toleranceOf (wordsOf (now (window .entry)));
+          starts = now (amounts .entry);
+          ends = take
+              (stateCount kernel) (drop r (now (values .exit)));
+          residuals = now (residual .entry);
+        })) ⌝ }
 {
     sheet_values::doubles(samples, 0, readings);
     let list = sheet_events::events_of(events);
-    let count = events.len() / EVENT;
+    let count = events.len() / EVENT_BYTES;
     let span = sheet_values::window_of(window);
     let folded = fold::normalize_periodic_cycle(kernel, span, list, count, readings);
     let places = folded.events;
@@ -76,10 +82,12 @@ pub fn print_next(
     values: &mut [f64],
     out: &mut [u8],
 ) -> PrintReply
-    requires { ⌜ (sound kernel ≡ done kernel) × (72 ≤ length (now window)) × (length (now events) / 8 / 6 ≤ 64) × (length (now samples) / 8 ≤ 256) × (length (now readings) ≡ length (now samples) / 8)
+    requires { ⌜ (sound kernel ≡ done kernel) × (72 ≤ length (now window)) × (length (now events) / 8 / eventSize ≤ mostCycleEvents)
+        × (length (now samples) / 8 ≤ mostSamples) × (length (now readings) ≡ length (now samples) / 8)
         × Solves (steadyWith kernel (wordsOf (now window)) (wordsOf (now samples)) (wordsOf (now events))) (now amounts) (now residual)
-        × (770 ≤ length (now times)) × (770 ≤ length (now sides)) × (3080 ≤ length (now values)) ⌝ }
-    ensures { λ r. ⌜ Prints (cyclePrintout (nextWith kernel (wordsOf (now (window .entry))) (wordsOf (now (samples .entry))) (wordsOf (now (events .entry))))) (now (out .entry)) r (now (out .exit)) ⌝ }
+        × (cycleRows ≤ length (now times)) × (cycleRows ≤ length (now sides)) × (cycleValues ≤ length (now values)) ⌝ }
+    ensures { λ r. ⌜ Prints (cyclePrintout (nextWith kernel (wordsOf (now (window .entry))) (wordsOf (now (samples .entry)))
+        (wordsOf (now (events .entry))))) (now (out .entry)) r (now (out .exit)) ⌝ }
 {
     let from = run_next(
         kernel,

@@ -8,7 +8,7 @@ use lib.Ieee.{Float}
 use Rattle.linear_pk.specs.declared.kernel.LinearPk.{LinearPk}
 use Rattle.sheet.specs.Sheet.{Sheet, readSheet}
 use Rattle.sheet_kernel.specs.Values.{modelOf}
-use Rattle.cycle.specs.Closed.{Timed, stopped, got, then, untimed, Solved}
+use Rattle.cycle.specs.Closed.{Timed, stopped, got, then, untimed, SteadyState}
 use Rattle.printout.specs.Printouts.{Printout}
 use Rattle.rig_steady_sheet.specs.SteadySheet.{steadyOfBytes}
 use Rattle.printout_cycle.specs.CyclePrintout.{NextCycle, closes}
@@ -38,7 +38,8 @@ EveryCyclePrintoutFits = (bs : List ℕ) → length (cyclePrintoutOfBytes bs .te
 -- a sheet whose closed cycle is refused has that refusal; one that is solved closes
 pub record NextCloses (bs : List ℕ) : Type 0 where
   pub refused : (c : ℕ) (t : Float) → steadyOfBytes bs ≡ stopped c t → nextOfBytes bs ≡ stopped c t
-  pub closed : (s : Solved) → steadyOfBytes bs ≡ got s → (x : NextCycle) × (nextOfBytes bs ≡ got x) × (x .starts ≡ s .amounts) × (x .residuals ≡ s .residuals)
+  pub closed : (s : SteadyState) → steadyOfBytes bs ≡ got s
+      → (x : NextCycle) × (nextOfBytes bs ≡ got x) × (x .starts ≡ s .amounts) × (x .residuals ≡ s .residuals)
       × (closes (x .tolerance) (x .starts) (x .ends) (x .residuals) ≡ true)
 
 abbrev pub EveryNextCycleCloses : Type 0

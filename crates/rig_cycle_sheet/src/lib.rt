@@ -1,4 +1,5 @@
 // One more cycle from the amounts of a sheet's closed one: its bytes in, the bytes of its printout out.
+use limits::STATES;
 use linear_pk::LinearPk;
 use periodic_acceptance::SteadyReply;
 use periodic_inputs::side_cells;
@@ -13,6 +14,7 @@ use rig_steady_cycle::solve_bodies;
 ghost use mathlib.Core.Path.{_≡_};
 ghost use Prim.Native.Nat.{_/_, _≤_};
 ghost use lib.ListN.{length};
+ghost use Rattle.limits.specs.Limits.{mostCycleEvents, mostSamples, eventSize, cycleRows, cycleValues};
 ghost use Rattle.refusal.specs.Numbers.{replyNumber};
 ghost use Rattle.refusal.specs.Result.{done};
 ghost use Rattle.linear_pk.specs.LinearPk.{sound, stateCount};
@@ -26,9 +28,6 @@ ghost use mathlib.Core.List.{[]};
 ghost use Rattle.printout.specs.Cells.{printed, printedLength};
 ghost use Rattle.printout.specs.Printouts.{numberInto};
 ghost use Rattle.rig_cycle_sheet.specs.CycleSheet.{nextSheet, cyclePrintoutOfBytes};
-
-// The most states of a kernel.
-const STATES: usize = 4;
 
 // Whether a cycle is solved, or its refusal, and the time of that.
 struct Refused {
@@ -44,7 +43,7 @@ fn refusal_of(reply: SteadyReply) -> Refused
             reply: Reply::Refused(refusal),
             time,
         },
-        SteadyReply::Solved { maximum: _ } => Refused {
+        SteadyReply::Solved { .. } => Refused {
             reply: Reply::Done,
             time: 0.0,
         },
@@ -65,10 +64,12 @@ pub fn next_bodies(
     values: &mut [f64],
     out: &mut [u8],
 ) -> PrintReply
-    requires { ⌜ (sound kernel ≡ done kernel) × (72 ≤ length (now window)) × (length (now events) / 8 / 6 ≤ 64) × (length (now samples) / 8 ≤ 256) × (length (now readings) ≡ length (now samples) / 8)
+    requires { ⌜ (sound kernel ≡ done kernel) × (72 ≤ length (now window)) × (length (now events) / 8 / eventSize ≤ mostCycleEvents)
+        × (length (now samples) / 8 ≤ mostSamples) × (length (now readings) ≡ length (now samples) / 8)
         × (length (now amounts) ≡ stateCount kernel) × (length (now residual) ≡ stateCount kernel)
-        × (770 ≤ length (now times)) × (770 ≤ length (now sides)) × (3080 ≤ length (now values)) ⌝ }
-    ensures { λ r. ⌜ Prints (cyclePrintout (nextWith kernel (wordsOf (now (window .entry))) (wordsOf (now (samples .entry))) (wordsOf (now (events .entry))))) (now (out .entry)) r (now (out .exit)) ⌝ }
+        × (cycleRows ≤ length (now times)) × (cycleRows ≤ length (now sides)) × (cycleValues ≤ length (now values)) ⌝ }
+    ensures { λ r. ⌜ Prints (cyclePrintout (nextWith kernel (wordsOf (now (window .entry))) (wordsOf (now (samples .entry)))
+        (wordsOf (now (events .entry))))) (now (out .entry)) r (now (out .exit)) ⌝ }
 {
     let refused = refusal_of(solve_bodies(
         kernel,
@@ -108,8 +109,10 @@ fn print_kernel(
     events: &[u8],
     out: &mut [u8],
 ) -> PrintReply
-    requires { ⌜ (sound kernel ≡ done kernel) × (72 ≤ length (now window)) × (length (now events) / 8 / 6 ≤ 64) × (length (now samples) / 8 ≤ 256) ⌝ }
-    ensures { λ r. ⌜ Prints (cyclePrintout (nextWith kernel (wordsOf (now (window .entry))) (wordsOf (now (samples .entry))) (wordsOf (now (events .entry))))) (now (out .entry)) r (now (out .exit)) ⌝ }
+    requires { ⌜ (sound kernel ≡ done kernel) × (72 ≤ length (now window)) × (length (now events) / 8 / eventSize ≤ mostCycleEvents)
+        × (length (now samples) / 8 ≤ mostSamples) ⌝ }
+    ensures { λ r. ⌜ Prints (cyclePrintout (nextWith kernel (wordsOf (now (window .entry))) (wordsOf (now (samples .entry)))
+        (wordsOf (now (events .entry))))) (now (out .entry)) r (now (out .exit)) ⌝ }
 {
     let n = kernel.state_count();
     let count = samples.len() / 8;
@@ -142,8 +145,16 @@ fn print_sheet(
     events: &[u8],
     out: &mut [u8],
 ) -> PrintReply
-    requires { ⌜ (modelFits (wordsOf (now model)) ≡ true) × (72 ≤ length (now window)) × (length (now events) / 8 / 6 ≤ 64) × (length (now samples) / 8 ≤ 256) ⌝ }
-    ensures { λ r. ⌜ Prints (cyclePrintout (nextSheet (record { model = wordsOf (now (model .entry)); window = wordsOf (now (window .entry)); amounts = []; samples = wordsOf (now (samples .entry)); events = wordsOf (now (events .entry)) })))
+    requires { ⌜ (modelFits (wordsOf (now model)) ≡ true) × (72 ≤ length (now window))
+        × (length (now events) / 8 / eventSize ≤ mostCycleEvents) × (length (now samples) / 8 ≤ mostSamples) ⌝ }
+    ensures { λ r. ⌜ Prints (cyclePrintout (nextSheet (record {
+      model = wordsOf (now (model .entry));
+      window = wordsOf
+          (now (window .entry));
+      amounts = [];
+      samples = wordsOf (now (samples .entry));
+      events = wordsOf (now (events .entry));
+    })))
         (now (out .entry)) r (now (out .exit)) ⌝ }
 {
     let made = sheet_kernel::kernel_of(model);

@@ -9,12 +9,13 @@ use borrow.Author.Tests.{leb-true, lt-ltb}
 use lib.Dec.{eqb, ltb, leb}
 use lib.ListN.{length, getD}
 use lib.Ieee.{Float}
+use Rattle.limits.specs.Limits.{states, mostCycleEvents, mostSamples, sheetRows}
 use Rattle.binary64.specs.Doubles.{plusZero}
 use Rattle.refusal.specs.Result.{Result, refused, done}
 use Rattle.linear_pk.specs.LinearPk.{stateCount}
 use Rattle.linear_pk.specs.declared.kernel.LinearPk.{LinearPk}
 use Rattle.linear_pk.proofs.Counted.{and-first, and-second}
-use Rattle.protocol.specs.Entry.{replyOf, timesAtExit, sidesAtExit, valuesAtExit}
+use Rattle.protocol.specs.Entry.{reportOf, timesAtExit, sidesAtExit, valuesAtExit}
 use Rattle.events_layout.specs.Layout.{eventCount, eventsOf}
 use Rattle.sheet.specs.Sheet.{Sheet, withinLimits, readSheet}
 use Rattle.sheet_kernel.specs.Values.{modelOf}
@@ -28,7 +29,7 @@ use Rattle.rig_run_sheet.proofs.Amounts.{few-states}
 use Rattle.rig_run_sheet.proofs.Words.{reckoned-words}
 use Rattle.rig_run_printout.specs.RunPrintout.{outcomeText}
 use Rattle.rig_run_printout.proofs.Runs.{run-kept}
-use Rattle.rig_run_printout.specs.Rig.{printoutOf, mostBytes, EveryPrintoutFits}
+use Rattle.rig_run_printout.specs.Rig.{runPrintoutOf, mostBytes, EveryPrintoutFits}
 use Rattle.rig_run_printout.proofs.Sheets.{sheet-refused, sheet-runs}
 
 -- ---- digits
@@ -51,16 +52,16 @@ three-places w h = on (ltb w 10) (ltb (w / 10) 10) (lt-ltb (w / 10 / 10) 10 (ome
     on false false e = subst (λ (c : Bool). suc (suc (cond c 1 (suc (places 16 (w / 10 / 10 / 10))))) ≤ 3) (sym e) (omega arith)
 
 -- ---- rows
-rows-most : (n k : ℕ) (sides : List ℕ) → n ≤ 4 → rowsLength n k sides ≤ 90 * k
+rows-most : (n k : ℕ) (sides : List ℕ) → n ≤ states → rowsLength n k sides ≤ 90 * k
 unfolding rowsLength
 rows-most n zero sides h = omega arith
 rows-most n (suc k) sides h = omega (arith, rows-most n k sides h, side (eqb (getD sides k 0) 1))
   where
-    side : (b : Bool) → cond b 3 4 ≤ 4
+    side : (b : Bool) → cond b 3 4 ≤ states
     side true = omega arith
     side false = omega arith
 
-length-most : (number rows n : ℕ) (sides : List ℕ) → rows ≤ 514 → n ≤ 4 → textLength number rows n sides ≤ mostBytes
+length-most : (number rows n : ℕ) (sides : List ℕ) → rows ≤ sheetRows → n ≤ states → textLength number rows n sides ≤ mostBytes
 unfolding textLength
 length-most number rows n sides r h = on (eqb number 0)
   where
@@ -71,30 +72,34 @@ length-most number rows n sides r h = on (eqb number 0)
 refusal-most : (c : ℕ) (t : Float) → length (refusedText c t) ≤ mostBytes
 refusal-most c t = omega (arith, refused-text-length c t, places-most 19 c)
 
-run-most : (k : LinearPk) (w a ss es : List ℕ) (sum : Float) → reckonedOf ss es ≤ 514 → length (outcomeText sum (runWith k w a ss es)) ≤ mostBytes
+run-most : (k : LinearPk) (w a ss es : List ℕ) (sum : Float) → reckonedOf ss es ≤ sheetRows → length (outcomeText sum (runWith k w a ss es)) ≤ mostBytes
 run-most k w a ss es sum h =
     let o = runWith k w a ss es in
     let R = reckonedOf ss es in
     let n = stateCount k in
     let f = run-kept k w a ss es in
     subst (λ (l : ℕ). l ≤ mostBytes)
-    (sym (ap length (sym (f .same sum [] [] [])) ∙ text-length (replyOf o .number) (replyOf o .time) (replyOf o .rows) n sum (timesAtExit R o []) (sidesAtExit R o []) (valuesAtExit R n o []) (f .room)))
-    (length-most (replyOf o .number) (replyOf o .rows) n (sidesAtExit R o []) (le-trans (f .within) h) (few-states k))
+    (sym (ap length (sym (f .same sum [] [] [])) ∙ text-length (reportOf o .number) (reportOf o .time) (reportOf o .rows) n sum
+    (timesAtExit R o []) (sidesAtExit R o []) (valuesAtExit R n o []) (f .room)))
+    (length-most (reportOf o .number) (reportOf o .rows) n (sidesAtExit R o []) (le-trans (f .within) h) (few-states k))
 
 pub every-printout-fits : EveryPrintoutFits
-unfolding printoutOf
+unfolding runPrintoutOf
 every-printout-fits bs = on (readSheet bs) refl
   where
-    rows : (s : Sheet) → withinLimits s ≡ true → reckonedOf (s .samples) (s .events) ≤ 514
+    rows : (s : Sheet) → withinLimits s ≡ true → reckonedOf (s .samples) (s .events) ≤ sheetRows
     rows s l =
-        let few = leb-true (eventCount (s .events)) 64 (and-first (leb (eventCount (s .events)) 64) (leb (length (s .samples)) 256) l) in
-        let some = leb-true (length (s .samples)) 256 (and-second (leb (eventCount (s .events)) 64) (leb (length (s .samples)) 256) l) in
+        let few = leb-true (eventCount (s .events)) mostCycleEvents (and-first (leb (eventCount (s .events)) mostCycleEvents)
+        (leb (length (s .samples)) mostSamples) l) in
+        let some = leb-true (length (s .samples)) mostSamples (and-second (leb (eventCount (s .events)) mostCycleEvents)
+        (leb (length (s .samples)) mostSamples) l) in
         omega (arith, few, some, reckoned-words (s .samples) (s .events))
 
-    model : (s : Sheet) → withinLimits s ≡ true → (m : Result LinearPk) → modelOf (s .model) ≡ m → length (printoutOf (done s) .text) ≤ mostBytes
+    model : (s : Sheet) → withinLimits s ≡ true → (m : Result LinearPk) → modelOf (s .model) ≡ m → length (runPrintoutOf (done s) .text) ≤ mostBytes
     model s l (refused c) e = subst (λ (p : Printout). length (p .text) ≤ mostBytes) (sym (sheet-refused s e)) (refusal-most c plusZero)
-    model s l (done k) e = subst (λ (p : Printout). length (p .text) ≤ mostBytes) (sym (sheet-runs s e)) (run-most k (s .window) (s .amounts) (s .samples) (s .events) (ordered (eventsOf (s .events))) (rows s l))
+    model s l (done k) e = subst (λ (p : Printout). length (p .text) ≤ mostBytes) (sym (sheet-runs s e))
+        (run-most k (s .window) (s .amounts) (s .samples) (s .events) (ordered (eventsOf (s .events))) (rows s l))
 
-    on : (r : Result Sheet) → readSheet bs ≡ r → length (printoutOf r .text) ≤ mostBytes
+    on : (r : Result Sheet) → readSheet bs ≡ r → length (runPrintoutOf r .text) ≤ mostBytes
     on (refused c) e = refusal-most c plusZero
     on (done s) e = model s (read-limits bs e) (modelOf (s .model)) refl

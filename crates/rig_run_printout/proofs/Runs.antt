@@ -10,11 +10,12 @@ use lib.Dec.{T, leb}
 use lib.ListN.{length, length-append}
 use lib.Ieee.{Float, binary64, fits}
 use lib.Ieee.Bits.{ofBits-fits}
+use Rattle.limits.specs.Limits.{mostEvents, mostSamples}
 use Rattle.binary64.specs.Doubles.{plusZero}
-use Rattle.binary64.specs.Lists.{all, gather, amountsPass}
+use Rattle.binary64.specs.Lists.{all, flatMap, amountsPass}
 use Rattle.matrix.specs.Matrix.{tabulate}
 use Rattle.refusal.specs.Result.{Result, refused, done, andThen, unless}
-use Rattle.linear_pk.specs.LinearPk.{sound, stateCount, volumesPass, ratesFinite}
+use Rattle.linear_pk.specs.LinearPk.{sound, stateCount, volumesPass, matrixFinite}
 use Rattle.linear_pk.specs.declared.kernel.LinearPk.{LinearPk}
 use Rattle.protocol.specs.declared.Event.{Event}
 use Rattle.protocol.specs.declared.Window.{Window}
@@ -22,7 +23,7 @@ use Rattle.protocol.specs.First as F
 use Rattle.protocol.specs.Events.{time}
 use Rattle.protocol.specs.Prepare.{windowPasses, within, eventsPass, reckoned, prepare}
 use Rattle.protocol.specs.Execute.{Pre, Row, State, Outcome, go, stop, runOf}
-use Rattle.protocol.specs.Entry.{mostEvents, mostSamples, Room, roomFor, ahead, simulate, Reply, replyOf, timesAtExit, sidesAtExit, valuesAtExit}
+use Rattle.protocol.specs.Entry.{Room, roomFor, firstRefusal, simulate, RunReport, reportOf, timesAtExit, sidesAtExit, valuesAtExit}
 use Rattle.protocol.specs.PlainRun.{Prepared, PlainRun, rowsLeft}
 use Rattle.protocol.proofs.Conditions.{meets-above}
 use Rattle.protocol.proofs.EntryLaws.{Passes, n-each, ahead-none, simulate-runs, simulate-refuses}
@@ -33,7 +34,7 @@ use Rattle.simulation_report.specs.declared.Report.{Report}
 use Rattle.simulation.proofs.KernelRuns.{kernel-run}
 use Rattle.simulation.proofs.Whole.{own-none}
 use Rattle.events_layout.specs.Layout.{eventsOf}
-use Rattle.sheet_kernel.specs.Values.{doubleOf, windowOf}
+use Rattle.sheet_kernel.specs.Values.{doubleOf, sheetWindow}
 use Rattle.printout.specs.Printout.{rowsText, runText, headLine, orderedLine}
 use Rattle.printout.proofs.Replies.{refusal-text, refusal-some}
 use Rattle.rig_run_sheet.specs.SheetRun.{doublesOf, roomOf, runWith, reckonedOf}
@@ -42,7 +43,7 @@ use Rattle.rig_run_printout.specs.RunPrintout.{outcomeText}
 use Rattle.rig_run_printout.proofs.Lines.{row-lines}
 
 -- a sheet's list that passes has what is claimed of plain runs
-prepared : (n : ℕ) (w ss es : List ℕ) → prepare n (windowOf w) (doublesOf ss) (eventsOf es) ≡ none → Prepared n (windowOf w) (doublesOf ss) (eventsOf es)
+prepared : (n : ℕ) (w ss es : List ℕ) → prepare n (sheetWindow w) (doublesOf ss) (eventsOf es) ≡ none → Prepared n (sheetWindow w) (doublesOf ss) (eventsOf es)
 unfolding tabulate
 prepared n w ss es h = record {
   start-fits = start-made w;
@@ -70,7 +71,7 @@ unless-positive true c h = tt
 unless-positive false c h = h
 
 own-positive : (k : LinearPk) → Positive (ownNumber (sound k))
-own-positive k = on (volumesPass k) (λ (j : LinearPk). ratesFinite j)
+own-positive k = on (volumesPass k) (λ (j : LinearPk). matrixFinite j)
   where
     rates : (b : Bool) → Positive (ownNumber (unless b 2 k))
     rates true = tt
@@ -81,11 +82,13 @@ own-positive k = on (volumesPass k) (λ (j : LinearPk). ratesFinite j)
     on false b = omega arith
 
 module _ (k : LinearPk) (w : Window) (ss : List Float) (es : List Event) (a : List Float) (cells : Room) where
-  ahead-positive : Positive (ahead (ownNumber (sound k)) (stateCount k) w ss es a cells)
-  unfolding ahead prepare
+  ahead-positive : Positive (firstRefusal (ownNumber (sound k)) (stateCount k) w ss es a cells)
+  unfolding firstRefusal prepare
   ahead-positive =
-      first-positive (F.unless limits 5) (ownNumber (sound k)) (F.unless (amountsPass n a) 3) (prepare n w ss es) (F.unless (roomFor (reckoned ss es) n cells) 4)
-      (unless-positive limits 5 (omega arith)) (own-positive k) (unless-positive (amountsPass n a) 3 (omega arith)) prepare-positive (unless-positive (roomFor (reckoned ss es) n cells) 4 (omega arith))
+      first-positive (F.unless limits 5) (ownNumber (sound k)) (F.unless (amountsPass n a) 3) (prepare n w ss es)
+      (F.unless (roomFor (reckoned ss es) n cells) 4)
+      (unless-positive limits 5 (omega arith)) (own-positive k) (unless-positive (amountsPass n a) 3 (omega arith)) prepare-positive
+      (unless-positive (roomFor (reckoned ss es) n cells) 4 (omega arith))
     where
       n : ℕ
       n = stateCount k
@@ -95,8 +98,11 @@ module _ (k : LinearPk) (w : Window) (ss : List Float) (es : List Event) (a : Li
 
       prepare-positive : Positive (prepare n w ss es)
       prepare-positive =
-          first-positive (F.unless (leb (length es) (w .events)) 13) (F.unless (windowPasses w) 10) (F.unless (all (within w) ss) 11) (F.unless (eventsPass n w [] es) 12) (F.unless (leb (reckoned ss es * n) (w .outputs)) 14)
-          (unless-positive (leb (length es) (w .events)) 13 (omega arith)) (unless-positive (windowPasses w) 10 (omega arith)) (unless-positive (all (within w) ss) 11 (omega arith)) (unless-positive (eventsPass n w [] es) 12 (omega arith)) (unless-positive (leb (reckoned ss es * n) (w .outputs)) 14 (omega arith))
+          first-positive (F.unless (leb (length es) (w .events)) 13) (F.unless (windowPasses w) 10) (F.unless (all (within w) ss) 11)
+          (F.unless (eventsPass n w [] es) 12) (F.unless (leb (reckoned ss es * n) (w .outputs)) 14)
+          (unless-positive (leb (length es) (w .events)) 13 (omega arith)) (unless-positive (windowPasses w) 10 (omega arith))
+          (unless-positive (all (within w) ss) 11 (omega arith)) (unless-positive (eventsPass n w [] es) 12 (omega arith))
+          (unless-positive (leb (reckoned ss es * n) (w .outputs)) 14 (omega arith))
 
 -- ---- a text has bytes
 pub text-some : (sum : Float) (o : Result Outcome) → 1 ≤ length (outcomeText sum o)
@@ -114,13 +120,15 @@ module _ (k : LinearPk) (w a ss es : List ℕ) where
   n = stateCount k
 
   abbrev outcome : Outcome
-  outcome = runOf (propagatorOf k) n (windowOf w) (doublesOf ss) (eventsOf es) (doublesOf a)
+  outcome = runOf (propagatorOf k) n (sheetWindow w) (doublesOf ss) (eventsOf es) (doublesOf a)
 
   -- the rows of an outcome are within, and its number is not 0 where it stops
   pub record Kept (o : Result Outcome) : Type 0 where
-    pub within : replyOf o .rows ≤ R
-    pub room : replyOf o .rows * n ≤ length (valuesAtExit R n o [])
-    pub same : (sum : Float) (times : List Float) (sides : List ℕ) (values : List Float) → runText (replyOf o .number) (replyOf o .time) (replyOf o .rows) n sum (timesAtExit R o times) (sidesAtExit R o sides) (valuesAtExit R n o values) ≡ outcomeText sum o
+    pub within : reportOf o .rows ≤ R
+    pub room : reportOf o .rows * n ≤ length (valuesAtExit R n o [])
+    pub same : (sum : Float) (times : List Float) (sides : List ℕ) (values : List Float)
+        → runText (reportOf o .number) (reportOf o .time) (reportOf o .rows) n sum (timesAtExit R o times) (sidesAtExit R o sides)
+        (valuesAtExit R n o values) ≡ outcomeText sum o
 
   no-cells : {m : ℕ} → 0 * n ≤ m
   no-cells {m} = subst (λ (j : ℕ). j ≤ m) (sym (zero-mul n)) zero-le
@@ -132,38 +140,53 @@ module _ (k : LinearPk) (w a ss es : List ℕ) where
   unfolding outcomeText
   refused-kept c h = record { within = zero-le; room = no-cells; same = λ sum times sides values. refusal-text c 0 n plusZero sum times sides values h }
 
-  began-kept : (o : Outcome) → length (rowsLeft o) ≤ R → T (all (λ (r : Row). amountsPass n (r .amounts)) (rowsLeft o)) → ((c : ℕ) (t : Float) (z : State) → o ≡ stop c t z → 1 ≤ c) → Kept (done o)
+  began-kept : (o : Outcome) → length (rowsLeft o) ≤ R → T (all (λ (r : Row). amountsPass n (r .amounts)) (rowsLeft o))
+      → ((c : ℕ) (t : Float) (z : State) → o ≡ stop c t z → 1 ≤ c) → Kept (done o)
   unfolding outcomeText runText rowsText
-  began-kept (stop c t z) l p q = record { within = zero-le; room = no-cells; same = λ sum times sides values. refusal-text c 0 n t sum (timesAtExit R (done (stop c t z)) times) (sidesAtExit R (done (stop c t z)) sides) (valuesAtExit R n (done (stop c t z)) values) (q c t z refl) }
+  began-kept (stop c t z) l p q = record {
+    within = zero-le;
+    room = no-cells;
+    same = λ sum times sides values. refusal-text c 0 n t sum
+        (timesAtExit R (done (stop c t z)) times) (sidesAtExit R (done (stop c t z)) sides) (valuesAtExit R n (done (stop c t z)) values)
+        (q c t z refl);
+  }
   began-kept (go z) l p q = record {
     within = l;
-    room = subst (λ (j : ℕ). j ≤ length (valuesAtExit R n (done (go z)) [])) (n-each n (z .rows) p) (more (gather (λ (r : Row). r .amounts) (z .rows)) _);
-    same = λ sum times sides values. ap (λ (x : List ℕ). headLine (length (z .rows)) ++ x ++ orderedLine sum) (row-lines n (z .rows) p _ _ _ (record { time = sum; side = Pre; amounts = [] }));
+    room = subst (λ (j : ℕ). j ≤ length (valuesAtExit R n (done (go z)) [])) (n-each n (z .rows) p) (more (flatMap (λ (r : Row). r .amounts) (z .rows)) _);
+    same =
+        λ sum times sides values. ap (λ (x : List ℕ). headLine (length (z .rows)) ++ x ++ orderedLine sum)
+        (row-lines n (z .rows) p _ _ _ (record { time = sum; side = Pre; amounts = [] }));
   }
 
   pub run-kept : Kept (runWith k w a ss es)
   unfolding runWith
-  run-kept = on (ahead (ownNumber (sound k)) n (windowOf w) (doublesOf ss) (eventsOf es) (doublesOf a) (roomOf R n)) refl
+  run-kept = on (firstRefusal (ownNumber (sound k)) n (sheetWindow w) (doublesOf ss) (eventsOf es) (doublesOf a) (roomOf R n)) refl
     where
-      facts : Passes (ownNumber (sound k)) n (windowOf w) (doublesOf ss) (eventsOf es) (doublesOf a) (roomOf R n) → PlainRun (propagatorOf k) (refusalOf k) n (windowOf w) (doublesOf ss) (eventsOf es) (doublesOf a)
-      facts p = kernel-run k (own-none k (p .kernel)) (windowOf w) (doublesOf ss) (eventsOf es) (prepared n w ss es (p .prepared)) (doublesOf a) (p .amounts)
+      facts : Passes (ownNumber (sound k)) n (sheetWindow w) (doublesOf ss) (eventsOf es) (doublesOf a) (roomOf R n)
+          → PlainRun (propagatorOf k) (refusalOf k) n (sheetWindow w) (doublesOf ss) (eventsOf es) (doublesOf a)
+      facts p = kernel-run k (own-none k (p .kernel)) (sheetWindow w) (doublesOf ss) (eventsOf es) (prepared n w ss es (p .prepared)) (doublesOf a) (p .amounts)
 
-      on : (o : Option ℕ) → ahead (ownNumber (sound k)) n (windowOf w) (doublesOf ss) (eventsOf es) (doublesOf a) (roomOf R n) ≡ o → Kept (simulate (propagatorOf k) (ownNumber (sound k)) n (windowOf w) (doublesOf ss) (eventsOf es) (doublesOf a) (roomOf R n))
+      on : (o : Option ℕ) → firstRefusal (ownNumber (sound k)) n (sheetWindow w) (doublesOf ss) (eventsOf es) (doublesOf a) (roomOf R n) ≡ o
+          → Kept (simulate (propagatorOf k) (ownNumber (sound k)) n (sheetWindow w) (doublesOf ss) (eventsOf es) (doublesOf a) (roomOf R n))
       on none e =
-          let f = facts (ahead-none (ownNumber (sound k)) n (windowOf w) (doublesOf ss) (eventsOf es) (doublesOf a) (roomOf R n) e) in
-          subst Kept (sym (simulate-runs (propagatorOf k) (ownNumber (sound k)) n (windowOf w) (doublesOf ss) (eventsOf es) (doublesOf a) (roomOf R n) e))
+          let f = facts (ahead-none (ownNumber (sound k)) n (sheetWindow w) (doublesOf ss) (eventsOf es) (doublesOf a) (roomOf R n) e) in
+          subst Kept (sym (simulate-runs (propagatorOf k) (ownNumber (sound k)) n (sheetWindow w) (doublesOf ss) (eventsOf es) (doublesOf a) (roomOf R n) e))
           (began-kept outcome (f .within) (f .rows) (λ (c : ℕ) (t : Float) (z : State) (q : outcome ≡ stop c t z). meets-above (f .exact c t .0 (z, q) .meets)))
       on (some c) e =
-          subst Kept (sym (simulate-refuses (propagatorOf k) (ownNumber (sound k)) n (windowOf w) (doublesOf ss) (eventsOf es) (doublesOf a) (roomOf R n) c e))
-          (refused-kept c (subst Positive e (ahead-positive k (windowOf w) (doublesOf ss) (eventsOf es) (doublesOf a) (roomOf R n))))
+          subst Kept (sym (simulate-refuses (propagatorOf k) (ownNumber (sound k)) n (sheetWindow w) (doublesOf ss) (eventsOf es)
+          (doublesOf a) (roomOf R n) c e))
+          (refused-kept c (subst Positive e (ahead-positive k (sheetWindow w) (doublesOf ss) (eventsOf es) (doublesOf a) (roomOf R n))))
 
   -- a report that tells it
-  module _ {report : Report} (e : reported report ≡ replyOf (runWith k w a ss es)) where
+  module _ {report : Report} (e : reported report ≡ reportOf (runWith k w a ss es)) where
     pub rows-within : report .rows ≤ R
-    rows-within = subst (λ (x : Reply). x .rows ≤ R) (sym e) (run-kept .within)
+    rows-within = subst (λ (x : RunReport). x .rows ≤ R) (sym e) (run-kept .within)
 
-    pub run-text : (times : List Float) (sides : List ℕ) (values : List Float) {count : ℕ} {sum sum' : Float} {times' : List Float} {sides' : List ℕ} {values' : List Float} → count ≡ n → sum' ≡ sum
-        → times' ≡ timesAtExit R (runWith k w a ss es) times → sides' ≡ sidesAtExit R (runWith k w a ss es) sides → values' ≡ valuesAtExit R n (runWith k w a ss es) values
+    pub run-text : (times : List Float) (sides : List ℕ) (values : List Float) {count : ℕ} {sum sum' : Float} {times' : List Float}
+        {sides' : List ℕ} {values' : List Float} → count ≡ n → sum' ≡ sum
+        → times' ≡ timesAtExit R (runWith k w a ss es) times → sides' ≡ sidesAtExit R (runWith k w a ss es) sides
+        → values' ≡ valuesAtExit R n (runWith k w a ss es) values
         → runText (report .number) (report .time) (report .rows) count sum' times' sides' values' ≡ outcomeText sum (runWith k w a ss es)
     run-text times sides values {count} {sum} {sum'} {times'} {sides'} {values'} c s t d v =
-        rw (c, s, t, d, v) (ap (λ (x : Reply). runText (x .number) (x .time) (x .rows) n sum (timesAtExit R (runWith k w a ss es) times) (sidesAtExit R (runWith k w a ss es) sides) (valuesAtExit R n (runWith k w a ss es) values)) e ∙ run-kept .same sum times sides values)
+        rw (c, s, t, d, v) (ap (λ (x : RunReport). runText (x .number) (x .time) (x .rows) n sum (timesAtExit R (runWith k w a ss es) times)
+        (sidesAtExit R (runWith k w a ss es) sides) (valuesAtExit R n (runWith k w a ss es) values)) e ∙ run-kept .same sum times sides values)

@@ -7,6 +7,7 @@ use native.Mathlib.Omega.{arith}
 use borrow.Author.Tests.{leb-true, eqb-true}
 use lib.Dec.{leb}
 use lib.ListN.{length, take, drop}
+use Rattle.limits.specs.Limits.{mostCycleEvents, mostSamples, eventSize}
 use Rattle.refusal.specs.Result.{Result, refused, done, andThen, number}
 use Rattle.linear_pk.specs.declared.kernel.LinearPk.{LinearPk}
 use Rattle.linear_pk.proofs.Counted.{and-first, and-second}
@@ -21,23 +22,28 @@ use Rattle.printout.specs.Replies.{refusal}
 use Rattle.sheet_events.specs.OrderedDoses.{ordered}
 use Rattle.rig_run_sheet.specs.SheetRun.{runWith}
 use Rattle.rig_run_printout.specs.RunPrintout.{outcomeText, runPrintout}
-use Rattle.rig_run_printout.specs.Rig.{runSheet, printoutOf, printoutOfBytes}
+use Rattle.rig_run_printout.specs.Rig.{runSheet, runPrintoutOf, printoutOfBytes}
 
 -- the model's refusal, or its run
-pub sheet-refused : (s : Sheet) {c : ℕ} → modelOf (s .model) ≡ refused c → printoutOf (done s) ≡ refusal c
-unfolding printoutOf runSheet outcomeText
-sheet-refused s e = ap (λ (r : Result LinearPk). runPrintout (ordered (eventsOf (s .events))) (andThen r (λ (k : LinearPk). runWith k (s .window) (s .amounts) (s .samples) (s .events)))) e
+pub sheet-refused : (s : Sheet) {c : ℕ} → modelOf (s .model) ≡ refused c → runPrintoutOf (done s) ≡ refusal c
+unfolding runPrintoutOf runSheet outcomeText
+sheet-refused s e =
+    ap (λ (r : Result LinearPk). runPrintout (ordered (eventsOf (s .events))) (andThen r
+    (λ (k : LinearPk). runWith k (s .window) (s .amounts) (s .samples) (s .events)))) e
 
-pub sheet-runs : (s : Sheet) {k : LinearPk} → modelOf (s .model) ≡ done k → printoutOf (done s) ≡ runPrintout (ordered (eventsOf (s .events))) (runWith k (s .window) (s .amounts) (s .samples) (s .events))
-unfolding printoutOf runSheet
-sheet-runs s e = ap (λ (r : Result LinearPk). runPrintout (ordered (eventsOf (s .events))) (andThen r (λ (k : LinearPk). runWith k (s .window) (s .amounts) (s .samples) (s .events)))) e
+pub sheet-runs : (s : Sheet) {k : LinearPk} → modelOf (s .model) ≡ done k
+    → runPrintoutOf (done s) ≡ runPrintout (ordered (eventsOf (s .events))) (runWith k (s .window) (s .amounts) (s .samples) (s .events))
+unfolding runPrintoutOf runSheet
+sheet-runs s e =
+    ap (λ (r : Result LinearPk). runPrintout (ordered (eventsOf (s .events))) (andThen r
+    (λ (k : LinearPk). runWith k (s .window) (s .amounts) (s .samples) (s .events)))) e
 
 -- the reader's refusal
 pub not-read : (bs : List ℕ) {c : ℕ} → c ≡ number (readSheet bs) → 0 < c → printoutOfBytes bs ≡ refusal c
-unfolding printoutOf
+unfolding runPrintoutOf
 not-read bs e h = on (readSheet bs) e h
   where
-    on : (r : Result Sheet) {c : ℕ} → c ≡ number r → 0 < c → printoutOf r ≡ refusal c
+    on : (r : Result Sheet) {c : ℕ} → c ≡ number r → 0 < c → runPrintoutOf r ≡ refusal c
     on (refused d) e h = ap refusal (sym e)
     on (done s) e h = absurd (no e h)
       where
@@ -94,16 +100,21 @@ module _ (bs : List ℕ) (q : number (readSheet bs) ≡ 0) (p : Places) (e : p �
   pub events-are : (part : List ℕ) → wordsOf part ≡ take (p .end - p .events) (drop (p .events) ws) → wordsOf part ≡ body ws 4
   events-are part r = r ∙ body-at ws (p .events) (p .end) 4 (between .events .0) (between .events .1)
 
-  module _ (model window samples events : List ℕ) (m : wordsOf model ≡ take (p .window - p .model) (drop (p .model) ws)) (w : wordsOf window ≡ take (p .amounts - p .window) (drop (p .window) ws))
+  module _ (model window samples events : List ℕ) (m : wordsOf model ≡ take (p .window - p .model) (drop (p .model) ws))
+      (w : wordsOf window ≡ take (p .amounts - p .window) (drop (p .window) ws))
       (s : wordsOf samples ≡ take (p .events - p .samples) (drop (p .samples) ws)) (v : wordsOf events ≡ take (p .end - p .events) (drop (p .events) ws)) where
     -- what their readers ask
-    pub readable : (modelFits (wordsOf model) ≡ true) × (72 ≤ length window) × (length events / 8 / 6 ≤ 64) × (length samples / 8 ≤ 256)
+    pub readable : (modelFits (wordsOf model) ≡ true) × (72 ≤ length window) × (length events / 8 / eventSize ≤ mostCycleEvents)
+        × (length samples / 8 ≤ mostSamples)
     readable =
         let f = passed .bodies in
         let l = passed .limits in
-        let nine = eqb-true (length (body ws 1)) 9 (and-first (windowFits (body ws 1)) (eventsFit (body ws 4)) (and-second (modelFits (body ws 0)) (windowFits (body ws 1) && eventsFit (body ws 4)) f)) in
-        let few = leb-true (eventCount (body ws 4)) 64 (and-first (leb (eventCount (body ws 4)) 64) (leb (length (body ws 3)) 256) l) in
-        let some = leb-true (length (body ws 3)) 256 (and-second (leb (eventCount (body ws 4)) 64) (leb (length (body ws 3)) 256) l) in (
+        let nine = eqb-true (length (body ws 1)) 9 (and-first (windowFits (body ws 1)) (eventsFit (body ws 4))
+        (and-second (modelFits (body ws 0)) (windowFits (body ws 1) && eventsFit (body ws 4)) f)) in
+        let few = leb-true (eventCount (body ws 4)) mostCycleEvents (and-first (leb (eventCount (body ws 4)) mostCycleEvents)
+        (leb (length (body ws 3)) mostSamples) l) in
+        let some = leb-true (length (body ws 3)) mostSamples (and-second (leb (eventCount (body ws 4)) mostCycleEvents)
+        (leb (length (body ws 3)) mostSamples) l) in (
           ap modelFits (model-is model m) ∙ and-first (modelFits (body ws 0)) (windowFits (body ws 1) && eventsFit (body ws 4)) f,
           omega (arith, nine, sym (words-length window) ∙ ap length (window-is window w)),
           omega (arith, few, sym (words-length events) ∙ ap length (events-are events v)),
@@ -111,5 +122,5 @@ module _ (bs : List ℕ) (q : number (readSheet bs) ≡ 0) (p : Places) (e : p �
         )
 
     pub printout-is : (amounts : List ℕ) → wordsOf amounts ≡ take (p .samples - p .amounts) (drop (p .amounts) ws)
-        → printoutOf (done (record { model = wordsOf model; window = wordsOf window; amounts = wordsOf amounts; samples = wordsOf samples; events = wordsOf events })) ≡ printoutOfBytes bs
+        → runPrintoutOf (done (record { model = wordsOf model; window = wordsOf window; amounts = wordsOf amounts; samples = wordsOf samples; events = wordsOf events })) ≡ printoutOfBytes bs
     printout-is amounts a = rw (model-is model m, window-is window w, amounts-are amounts a, samples-are samples s, events-are events v, read-is) refl

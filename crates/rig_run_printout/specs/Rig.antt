@@ -21,13 +21,13 @@ runSheet s = andThen (modelOf (s .model)) (λ (k : LinearPk). runWith k (s .wind
 
 -- ---- its printout
 -- of a sheet, or of the reader's 40 or 5
-unfoldable pub printoutOf : Result Sheet → Printout
-printoutOf (refused c) = record { number = c; text = refusedText c plusZero }
-printoutOf (done s) = runPrintout (ordered (eventsOf (s .events))) (runSheet s)
+unfoldable pub runPrintoutOf : Result Sheet → Printout
+runPrintoutOf (refused c) = record { number = c; text = refusedText c plusZero }
+runPrintoutOf (done s) = runPrintout (ordered (eventsOf (s .events))) (runSheet s)
 
 -- of the bytes of a file
 abbrev pub printoutOfBytes : List ℕ → Printout
-printoutOfBytes bs = printoutOf (readSheet bs)
+printoutOfBytes bs = runPrintoutOf (readSheet bs)
 
 -- ---- room for the printout of any sheet: 514 rows of four amounts
 abbrev pub mostBytes : ℕ

@@ -4,10 +4,10 @@ use Prim.Native.Nat.{ℕ}
 use lib.ListN.{length}
 use lib.Ieee.{Float}
 use Rattle.binary64.specs.Doubles.{plusZero}
-use Rattle.binary64.specs.Lists.{gather}
+use Rattle.binary64.specs.Lists.{flatMap}
 use Rattle.refusal.specs.Result.{Result, refused, done}
 use Rattle.protocol.specs.Execute.{Row, Outcome, go, stop}
-use Rattle.protocol.specs.Entry.{replyOf, sideCode}
+use Rattle.protocol.specs.Entry.{reportOf, sideCode}
 use Rattle.printout.specs.Printout.{rowLine, headLine, orderedLine, refusedText}
 use Rattle.printout.specs.Printouts.{Printout}
 
@@ -18,7 +18,7 @@ rowText r = rowLine (r .time) (sideCode (r .side)) (r .amounts)
 unfoldable pub outcomeText : Float → Result Outcome → List ℕ
 outcomeText sum (refused c) = refusedText c plusZero
 outcomeText sum (done (stop c t s)) = refusedText c t
-outcomeText sum (done (go s)) = headLine (length (s .rows)) ++ gather rowText (s .rows) ++ orderedLine sum
+outcomeText sum (done (go s)) = headLine (length (s .rows)) ++ flatMap rowText (s .rows) ++ orderedLine sum
 
 abbrev pub runPrintout : Float → Result Outcome → Printout
-runPrintout sum o = record { number = replyOf o .number; text = outcomeText sum o }
+runPrintout sum o = record { number = reportOf o .number; text = outcomeText sum o }

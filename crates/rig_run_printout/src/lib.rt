@@ -1,10 +1,11 @@
 // The run of a sheet: its bytes in, the bytes of its printout out.
+use limits::EVENT_BYTES;
+use limits::READ_AMOUNTS;
 use linear_pk::LinearPk;
 use printout::PrintReply;
 use printout::print_refusal;
 use printout::reply_of;
 use refusal::Reply;
-use rig_run_sheet::AMOUNTS;
 use rig_run_sheet::known;
 use rig_run_sheet::sample_cells;
 use rig_run_sheet::side_cells;
@@ -18,6 +19,7 @@ ghost use mathlib.Core.Bool.{cond, true};
 ghost use Prim.Native.Nat.{_*_, _/_, _≤_};
 ghost use lib.Dec.{leb};
 ghost use lib.ListN.{length};
+ghost use Rattle.limits.specs.Limits.{mostCycleEvents, mostSamples, eventSize, readAmounts};
 ghost use Rattle.refusal.specs.Numbers.{replyNumber};
 ghost use Rattle.linear_pk.specs.LinearPk.{stateCount};
 ghost use Rattle.simulation_report.specs.Replies.{runReply};
@@ -30,10 +32,7 @@ ghost use Rattle.rig_run_printout.specs.RunPrintout.{runPrintout};
 ghost use Rattle.refusal.specs.Result.{done};
 ghost use Rattle.printout.specs.Cells.{printed, printedLength};
 ghost use Rattle.printout.specs.Printouts.{numberInto};
-ghost use Rattle.rig_run_printout.specs.Rig.{printoutOf, printoutOfBytes};
-
-// Bytes of an event.
-const EVENT: usize = 48;
+ghost use Rattle.rig_run_printout.specs.Rig.{runPrintoutOf, printoutOfBytes};
 
 // Whether a run reached its end, or its refusal.
 fn answer_of(run: RunReply) -> Reply
@@ -41,15 +40,8 @@ fn answer_of(run: RunReply) -> Reply
 {
     match run {
         RunReply::Refused(refusal) => Reply::Refused(refusal),
-        RunReply::Stopped {
-            refusal,
-            time: _,
-            advances: _,
-        } => Reply::Refused(refusal),
-        RunReply::Reached {
-            rows: _,
-            advances: _,
-        } => Reply::Done,
+        RunReply::Stopped { refusal, .. } => Reply::Refused(refusal),
+        RunReply::Reached { .. } => Reply::Done,
     }
 }
 
@@ -67,12 +59,15 @@ fn print_bodies(
     values: &mut [f64],
     out: &mut [u8],
 ) -> PrintReply
-    requires { ⌜ (72 ≤ length (now window)) × (length (now events) / 8 / 6 ≤ 64) × (length (now samples) / 8 ≤ 256)
-        × (length (now initial) ≡ cond (leb (length (now amounts) / 8) 5) (length (now amounts) / 8) 5) × (length (now readings) ≡ length (now samples) / 8)
-        × (length (now times) ≡ reckonedOf (wordsOf (now samples)) (wordsOf (now events))) × (length (now sides) ≡ reckonedOf (wordsOf (now samples)) (wordsOf (now events)))
+    requires { ⌜ (72 ≤ length (now window)) × (length (now events) / 8 / eventSize ≤ mostCycleEvents) × (length (now samples) / 8 ≤ mostSamples)
+        × (length (now initial) ≡ cond (leb (length (now amounts) / 8) readAmounts) (length (now amounts) / 8) readAmounts)
+        × (length (now readings) ≡ length (now samples) / 8)
+        × (length (now times) ≡ reckonedOf (wordsOf (now samples)) (wordsOf (now events)))
+        × (length (now sides) ≡ reckonedOf (wordsOf (now samples)) (wordsOf (now events)))
         × (length (now values) ≡ reckonedOf (wordsOf (now samples)) (wordsOf (now events)) * stateCount kernel) ⌝ }
     ensures { λ r. ⌜ Prints (runPrintout (orderedOf (eventsOf (wordsOf (now (events .entry)))))
-        (runWith kernel (wordsOf (now (window .entry))) (wordsOf (now (amounts .entry))) (wordsOf (now (samples .entry))) (wordsOf (now (events .entry))))) (now (out .entry)) r (now (out .exit)) ⌝ }
+        (runWith kernel (wordsOf (now (window .entry))) (wordsOf (now (amounts .entry))) (wordsOf (now (samples .entry)))
+        (wordsOf (now (events .entry))))) (now (out .entry)) r (now (out .exit)) ⌝ }
 {
     let run = simulate_bodies(
         kernel,
@@ -112,15 +107,16 @@ pub fn print_kernel(
     events: &[u8],
     out: &mut [u8],
 ) -> PrintReply
-    requires { ⌜ (72 ≤ length (now window)) × (length (now events) / 8 / 6 ≤ 64) × (length (now samples) / 8 ≤ 256) ⌝ }
+    requires { ⌜ (72 ≤ length (now window)) × (length (now events) / 8 / eventSize ≤ mostCycleEvents) × (length (now samples) / 8 ≤ mostSamples) ⌝ }
     ensures { λ r. ⌜ Prints (runPrintout (orderedOf (eventsOf (wordsOf (now (events .entry)))))
-        (runWith kernel (wordsOf (now (window .entry))) (wordsOf (now (amounts .entry))) (wordsOf (now (samples .entry))) (wordsOf (now (events .entry))))) (now (out .entry)) r (now (out .exit)) ⌝ }
+        (runWith kernel (wordsOf (now (window .entry))) (wordsOf (now (amounts .entry))) (wordsOf (now (samples .entry)))
+        (wordsOf (now (events .entry))))) (now (out .entry)) r (now (out .exit)) ⌝ }
 {
     let first = known(amounts.len() / 8);
     let count = samples.len() / 8;
-    let rows = 4 * (events.len() / EVENT) + count + 2;
+    let rows = 4 * (events.len() / EVENT_BYTES) + count + 2;
     let cells = rows * kernel.state_count();
-    let mut initial = [0.0f64; AMOUNTS];
+    let mut initial = [0.0f64; READ_AMOUNTS];
     let mut readings = sample_cells();
     let mut times = time_cells();
     let mut sides = side_cells();
@@ -149,8 +145,17 @@ fn print_sheet(
     events: &[u8],
     out: &mut [u8],
 ) -> PrintReply
-    requires { ⌜ (modelFits (wordsOf (now model)) ≡ true) × (72 ≤ length (now window)) × (length (now events) / 8 / 6 ≤ 64) × (length (now samples) / 8 ≤ 256) ⌝ }
-    ensures { λ r. ⌜ Prints (printoutOf (done (record { model = wordsOf (now (model .entry)); window = wordsOf (now (window .entry)); amounts = wordsOf (now (amounts .entry)); samples = wordsOf (now (samples .entry)); events = wordsOf (now (events .entry)) })))
+    requires { ⌜ (modelFits (wordsOf (now model)) ≡ true) × (72 ≤ length (now window))
+        × (length (now events) / 8 / eventSize ≤ mostCycleEvents) × (length (now samples) / 8 ≤ mostSamples) ⌝ }
+    ensures { λ r. ⌜ Prints (runPrintoutOf (done (record {
+      model = wordsOf (now (model .entry));
+      window = wordsOf
+          (now (window .entry));
+      amounts = wordsOf (now (amounts .entry));
+      samples = wordsOf (now (samples .entry));
+      events = wordsOf
+          (now (events .entry));
+    })))
         (now (out .entry)) r (now (out .exit)) ⌝ }
 {
     let made = sheet_kernel::kernel_of(model);

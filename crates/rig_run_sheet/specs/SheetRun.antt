@@ -12,7 +12,7 @@ use Rattle.protocol.specs.Entry.{Room, simulate}
 use Rattle.preparation.specs.Preparation.{ownNumber}
 use Rattle.simulation.specs.KernelRun.{propagatorOf}
 use Rattle.events_layout.specs.Layout.{eventsOf}
-use Rattle.sheet_kernel.specs.Values.{doublesFrom, windowOf}
+use Rattle.sheet_kernel.specs.Values.{doublesFrom, sheetWindow}
 
 -- all words as doubles
 abbrev pub doublesOf : List ℕ → List Float
@@ -25,7 +25,8 @@ roomOf rows n = record { times = rows; sides = rows; values = rows * n }
 -- the library's run of a kernel and the words of window, amounts, samples and events, into slices of the reckoned rows
 unfoldable pub runWith : LinearPk → List ℕ → List ℕ → List ℕ → List ℕ → Result Outcome
 runWith k w a ss es =
-    simulate (propagatorOf k) (ownNumber (sound k)) (stateCount k) (windowOf w) (doublesOf ss) (eventsOf es) (doublesOf a) (roomOf (reckoned (doublesOf ss) (eventsOf es)) (stateCount k))
+    simulate (propagatorOf k) (ownNumber (sound k)) (stateCount k) (sheetWindow w) (doublesOf ss) (eventsOf es) (doublesOf a)
+    (roomOf (reckoned (doublesOf ss) (eventsOf es)) (stateCount k))
 
 -- the reckoned rows, from the words of samples and events
 abbrev pub reckonedOf : List ℕ → List ℕ → ℕ

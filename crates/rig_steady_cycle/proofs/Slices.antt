@@ -6,17 +6,20 @@ use native.Mathlib.Omega.{arith}
 use borrow.Author.Tests.{ne-eqb}
 use lib.Seq.{take-at}
 use lib.Ieee.{Float}
-use Rattle.cycle.specs.Closed.{Timed, stopped, got, Solved, SteadyReply, steadyReplyOf, answerAtExit}
-use Rattle.printout_steady.specs.SteadyPrintout.{steadyText, replyOf}
-use Rattle.printout_steady.specs.SteadyReplies.{steadyPrintout, printoutOf}
-use Rattle.rig_steady_cycle.specs.Told.{Told}
+use Rattle.cycle.specs.Closed.{Timed, stopped, got, SteadyState, SteadyReport, steadyReportOf, answerAtExit}
+use Rattle.printout_steady.specs.SteadyPrintout.{steadyText, steadyResult}
+use Rattle.printout_steady.specs.SteadyReplies.{steadyPrintout, steadyPrintoutOf}
+use Rattle.rig_steady_cycle.specs.SteadyAnswer.{Told}
 use Rattle.rig_steady_cycle.proofs.Kept.{Kept}
 
-kept-text : (n : ℕ) (o : Timed Solved) → Kept n o → (old old' : List Float)
-    → replyOf (steadyReplyOf o .number) (steadyReplyOf o .time) n (steadyReplyOf o .greatest) (answerAtExit (λ (s : Solved). s .amounts) o old) (answerAtExit (λ (s : Solved). s .residuals) o old') ≡ o
+kept-text : (n : ℕ) (o : Timed SteadyState) → Kept n o → (old old' : List Float)
+    → steadyResult (steadyReportOf o .number) (steadyReportOf o .time) n (steadyReportOf o .maximum)
+    (answerAtExit (λ (s : SteadyState). s .amounts) o old) (answerAtExit (λ (s : SteadyState). s .residuals) o old') ≡ o
 kept-text n (stopped c t) h old old' = rw (ne-eqb c 0 (λ e. omega arith))
 kept-text n (got s) h old old' = rw (take-at (s .amounts) _ n (h .amounts), take-at (s .residuals) _ n (h .residuals)) refl
 
-pub told-printout : (n : ℕ) (o : Timed Solved) → Kept n o → {r : SteadyReply} {a a' b b' : List Float} → Told o r a b a' b' → {m : ℕ} → m ≡ n → printoutOf r m a' b' ≡ steadyPrintout o
+pub told-printout : (n : ℕ) (o : Timed SteadyState) → Kept n o → {r : SteadyReport} {a a' b b' : List Float} → Told o r a b a' b' → {m : ℕ}
+    → m ≡ n → steadyPrintoutOf r m a' b' ≡ steadyPrintout o
 told-printout n o h {r} {a} {a'} {b} {b'} t {m} e =
-    rw (e, t .reply, t .cells, t .beside) (ap (λ (x : Timed Solved). record { number = steadyReplyOf o .number; text = steadyText x }) (kept-text n o h a b))
+    rw (e, t .reply, t .cells, t .beside) (ap (λ (x : Timed SteadyState). record { number = steadyReportOf o .number; text = steadyText x })
+    (kept-text n o h a b))

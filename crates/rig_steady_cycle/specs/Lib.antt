@@ -1,2 +1,2 @@
 pub mod SheetCycle
-pub mod Told
+pub mod SteadyAnswer

@@ -1,4 +1,6 @@
 // The closed cycle of a kernel and the other bodies of a sheet, and its printout.
+use limits::EVENT_BYTES;
+use limits::STATES;
 use linear_pk::LinearPk;
 use periodic_acceptance::SteadyReply;
 use printout::PrintReply;
@@ -8,20 +10,15 @@ use sheet_kernel::tolerance_of;
 ghost use mathlib.Core.Path.{_≡_};
 ghost use Prim.Native.Nat.{_/_, _≤_};
 ghost use lib.ListN.{length};
+ghost use Rattle.limits.specs.Limits.{mostCycleEvents, mostSamples, eventSize};
 ghost use Rattle.refusal.specs.Result.{done};
 ghost use Rattle.linear_pk.specs.LinearPk.{sound, stateCount};
 ghost use Rattle.periodic_acceptance.specs.Entry.{steadyReply};
 ghost use Rattle.sheet.specs.Sheet.{wordsOf};
 ghost use Rattle.rig_steady_cycle.specs.SheetCycle.{steadyWith};
-ghost use Rattle.rig_steady_cycle.specs.Told.{Told};
+ghost use Rattle.rig_steady_cycle.specs.SteadyAnswer.{Told};
 ghost use Rattle.printout.specs.Replies.{Prints};
 ghost use Rattle.printout_steady.specs.SteadyReplies.{steadyPrintout};
-
-// Bytes of an event.
-const EVENT: usize = 48;
-
-// The most states of a kernel.
-const STATES: usize = 4;
 
 // The closed cycle of a kernel and the other bodies, into slices of as many cells as it has states.
 pub fn solve_bodies(
@@ -33,14 +30,15 @@ pub fn solve_bodies(
     amounts: &mut [f64],
     residual: &mut [f64],
 ) -> SteadyReply
-    requires { ⌜ (sound kernel ≡ done kernel) × (72 ≤ length (now window)) × (length (now events) / 8 / 6 ≤ 64) × (length (now samples) / 8 ≤ 256)
+    requires { ⌜ (sound kernel ≡ done kernel) × (72 ≤ length (now window)) × (length (now events) / 8 / eventSize ≤ mostCycleEvents)
+        × (length (now samples) / 8 ≤ mostSamples)
         × (length (now readings) ≡ length (now samples) / 8) × (length (now amounts) ≡ stateCount kernel) × (length (now residual) ≡ stateCount kernel) ⌝ }
     ensures { λ r. ⌜ Told (steadyWith kernel (wordsOf (now (window .entry))) (wordsOf (now (samples .entry))) (wordsOf (now (events .entry))))
         (steadyReply r) (now (amounts .entry)) (now (residual .entry)) (now (amounts .exit)) (now (residual .exit)) ⌝ }
 {
     sheet_values::doubles(samples, 0, readings);
     let list = sheet_events::events_of(events);
-    let count = events.len() / EVENT;
+    let count = events.len() / EVENT_BYTES;
     let span = sheet_values::window_of(window);
     let tolerance = tolerance_of(window);
     periodic::periodic_steady_state(
@@ -66,9 +64,11 @@ fn print_bodies(
     residual: &mut [f64],
     out: &mut [u8],
 ) -> PrintReply
-    requires { ⌜ (sound kernel ≡ done kernel) × (72 ≤ length (now window)) × (length (now events) / 8 / 6 ≤ 64) × (length (now samples) / 8 ≤ 256)
+    requires { ⌜ (sound kernel ≡ done kernel) × (72 ≤ length (now window)) × (length (now events) / 8 / eventSize ≤ mostCycleEvents)
+        × (length (now samples) / 8 ≤ mostSamples)
         × (length (now readings) ≡ length (now samples) / 8) × (length (now amounts) ≡ stateCount kernel) × (length (now residual) ≡ stateCount kernel) ⌝ }
-    ensures { λ r. ⌜ Prints (steadyPrintout (steadyWith kernel (wordsOf (now (window .entry))) (wordsOf (now (samples .entry))) (wordsOf (now (events .entry)))))
+    ensures { λ r. ⌜ Prints (steadyPrintout (steadyWith kernel (wordsOf (now (window .entry))) (wordsOf (now (samples .entry)))
+        (wordsOf (now (events .entry)))))
         (now (out .entry)) r (now (out .exit)) ⌝ }
 {
     let n = kernel.state_count();
@@ -84,8 +84,10 @@ pub fn print_kernel(
     events: &[u8],
     out: &mut [u8],
 ) -> PrintReply
-    requires { ⌜ (sound kernel ≡ done kernel) × (72 ≤ length (now window)) × (length (now events) / 8 / 6 ≤ 64) × (length (now samples) / 8 ≤ 256) ⌝ }
-    ensures { λ r. ⌜ Prints (steadyPrintout (steadyWith kernel (wordsOf (now (window .entry))) (wordsOf (now (samples .entry))) (wordsOf (now (events .entry)))))
+    requires { ⌜ (sound kernel ≡ done kernel) × (72 ≤ length (now window)) × (length (now events) / 8 / eventSize ≤ mostCycleEvents)
+        × (length (now samples) / 8 ≤ mostSamples) ⌝ }
+    ensures { λ r. ⌜ Prints (steadyPrintout (steadyWith kernel (wordsOf (now (window .entry))) (wordsOf (now (samples .entry)))
+        (wordsOf (now (events .entry)))))
         (now (out .entry)) r (now (out .exit)) ⌝ }
 {
     let n = kernel.state_count();

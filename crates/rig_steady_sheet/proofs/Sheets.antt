@@ -39,9 +39,12 @@ module _ {A : Type 0} (f : LinearPk → List ℕ → List ℕ → List ℕ → T
           no e h = omega arith
 
   -- a sheet that is read: its bodies but for the amounts
-  pub bytes-are : (bs : List ℕ) (q : number (readSheet bs) ≡ 0) (p : Places) (e : p ≡ placesRead (wordsOf bs) (readSheet bs)) (model window samples events : List ℕ)
-      → wordsOf model ≡ take (p .window - p .model) (drop (p .model) (wordsOf bs)) → wordsOf window ≡ take (p .amounts - p .window) (drop (p .window) (wordsOf bs))
-      → wordsOf samples ≡ take (p .events - p .samples) (drop (p .samples) (wordsOf bs)) → wordsOf events ≡ take (p .end - p .events) (drop (p .events) (wordsOf bs))
+  pub bytes-are : (bs : List ℕ) (q : number (readSheet bs) ≡ 0) (p : Places) (e : p ≡ placesRead (wordsOf bs) (readSheet bs))
+      (model window samples events : List ℕ)
+      → wordsOf model ≡ take (p .window - p .model) (drop (p .model) (wordsOf bs))
+      → wordsOf window ≡ take (p .amounts - p .window) (drop (p .window) (wordsOf bs))
+      → wordsOf samples ≡ take (p .events - p .samples) (drop (p .samples) (wordsOf bs))
+      → wordsOf events ≡ take (p .end - p .events) (drop (p .events) (wordsOf bs))
       → ofSheet (record { model = wordsOf model; window = wordsOf window; amounts = []; samples = wordsOf samples; events = wordsOf events }) ≡ ofBytes bs
   bytes-are bs q p e model window samples events m w s v =
       rw (model-is bs q p e model m, window-is bs q p e window w, samples-are bs q p e samples s, events-are bs q p e events v, read-is bs q p e) refl

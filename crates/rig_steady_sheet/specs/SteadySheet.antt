@@ -3,7 +3,7 @@ use mathlib.Core.List.{List}
 use Prim.Native.Nat.{ℕ, _≤_}
 use lib.ListN.{length}
 use Rattle.linear_pk.specs.declared.kernel.LinearPk.{LinearPk}
-use Rattle.cycle.specs.Closed.{Timed, then, untimed, Solved}
+use Rattle.cycle.specs.Closed.{Timed, then, untimed, SteadyState}
 use Rattle.sheet.specs.Sheet.{Sheet, readSheet}
 use Rattle.sheet_kernel.specs.Values.{modelOf}
 use Rattle.printout.specs.Printouts.{Printout}
@@ -11,12 +11,12 @@ use Rattle.printout_steady.specs.SteadyReplies.{steadyPrintout}
 use Rattle.rig_steady_cycle.specs.SheetCycle.{steadyWith}
 
 -- the model's 1 and 2, then the closed cycle; the amounts are passed over
-unfoldable pub steadySheet : Sheet → Timed Solved
+unfoldable pub steadySheet : Sheet → Timed SteadyState
 unfolding steadyWith
 steadySheet s = then (untimed (modelOf (s .model))) (λ (k : LinearPk). steadyWith k (s .window) (s .samples) (s .events))
 
 -- the reader's 40 and 5 ahead of them
-unfoldable pub steadyOfBytes : List ℕ → Timed Solved
+unfoldable pub steadyOfBytes : List ℕ → Timed SteadyState
 unfolding steadySheet
 steadyOfBytes bs = then (untimed (readSheet bs)) steadySheet
 

@@ -7,6 +7,7 @@ ghost use mathlib.Core.Bool.{true};
 ghost use mathlib.Core.List.{[]};
 ghost use Prim.Native.Nat.{_/_, _≤_};
 ghost use lib.ListN.{length};
+ghost use Rattle.limits.specs.Limits.{mostCycleEvents, mostSamples, eventSize};
 ghost use Rattle.refusal.specs.Numbers.{replyNumber};
 ghost use Rattle.printout.specs.Cells.{printed, printedLength};
 ghost use Rattle.sheet.specs.Sheet.{wordsOf, modelFits};
@@ -23,8 +24,16 @@ fn print_sheet(
     events: &[u8],
     out: &mut [u8],
 ) -> PrintReply
-    requires { ⌜ (modelFits (wordsOf (now model)) ≡ true) × (72 ≤ length (now window)) × (length (now events) / 8 / 6 ≤ 64) × (length (now samples) / 8 ≤ 256) ⌝ }
-    ensures { λ r. ⌜ Prints (steadyPrintout (steadySheet (record { model = wordsOf (now (model .entry)); window = wordsOf (now (window .entry)); amounts = []; samples = wordsOf (now (samples .entry)); events = wordsOf (now (events .entry)) })))
+    requires { ⌜ (modelFits (wordsOf (now model)) ≡ true) × (72 ≤ length (now window))
+        × (length (now events) / 8 / eventSize ≤ mostCycleEvents) × (length (now samples) / 8 ≤ mostSamples) ⌝ }
+    ensures { λ r. ⌜ Prints (steadyPrintout (steadySheet (record {
+      model = wordsOf (now (model .entry));
+      window = wordsOf
+          (now (window .entry));
+      amounts = [];
+      samples = wordsOf (now (samples .entry));
+      events = wordsOf (now (events .entry));
+    })))
         (now (out .entry)) r (now (out .exit)) ⌝ }
 {
     let made = sheet_kernel::kernel_of(model);

@@ -6,7 +6,7 @@ use native.Mathlib.Omega.{arith}
 use mathlib.Core.List.{List, []}
 use lib.ListN.{length, getD, set, replicate, length-replicate}
 use Rattle.linear_pk_interval.proofs.Laid.{Laying, laying-start, laying-more, laying-done}
-use Rattle.protocol.specs.Entry.{laid}
+use Rattle.protocol.specs.Entry.{frontThenZeros}
 
 module _ {A : Type 0} (z : A) (k : ℕ) (old : List A) where
   -- i cells are cleared
@@ -22,7 +22,8 @@ module _ {A : Type 0} (z : A) (k : ℕ) (old : List A) where
   same (suc j) (suc i) = same j i
 
   pub clearing-more : {out : List A} (i : ℕ) → k ≤ length old → Clearing out i → i < k → Clearing (set out i z) (i + 1)
-  clearing-more {out} i room h l = rw (same k i) at (laying-more (replicate k z) old z i (omega (arith, length-replicate k z)) h (omega (arith, length-replicate k z)))
+  clearing-more {out} i room h l = rw (same k i) at (laying-more (replicate k z) old z i (omega (arith, length-replicate k z)) h
+      (omega (arith, length-replicate k z)))
 
-  pub clearing-done : {out : List A} (i : ℕ) → k ≤ i → Clearing out i → out ≡ laid z k [] old
+  pub clearing-done : {out : List A} (i : ℕ) → k ≤ i → Clearing out i → out ≡ frontThenZeros z k [] old
   clearing-done i p h = laying-done (replicate k z) old i (omega (arith, length-replicate k z)) h ∙ rw (length-replicate k z, sub-zero k)

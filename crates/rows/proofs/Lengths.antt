@@ -8,17 +8,17 @@ use mathlib.Core.List.{List, [], _∷_, _++_, map}
 use lib.ListN.{length, length-append, length-map, replicate}
 use lib.Ieee.{Float, lt}
 use mathlib.Core.Bool.{_&&_}
-use Rattle.binary64.specs.Lists.{pick, keep}
+use Rattle.binary64.specs.Lists.{pick, filter}
 use Rattle.binary64.specs.Sort.{insertBy, sortBy}
 use Rattle.protocol.specs.declared.Event.{Event}
 use Rattle.protocol.specs.Events.{hasEvent, isReset, isBolus, byOrder, resets, boluses, inside}
 use Rattle.protocol.specs.Schedule.{pre, post, apply, reading, arrive, atBoundary, onInterval, summed, marked, following, fromFirst}
 
-keep-most : {A : Type 0} (p : A → Bool) (xs : List A) → length (keep p xs) ≤ length xs
-keep-most p [] = omega arith
-keep-most p (x ∷ xs) = on (p x) (keep-most p xs)
+filter-most : {A : Type 0} (p : A → Bool) (xs : List A) → length (filter p xs) ≤ length xs
+filter-most p [] = omega arith
+filter-most p (x ∷ xs) = on (p x) (filter-most p xs)
   where
-    on : (b : Bool) → length (keep p xs) ≤ length xs → length (pick b x (keep p xs)) ≤ suc (length xs)
+    on : (b : Bool) → length (filter p xs) ≤ length xs → length (pick b x (filter p xs)) ≤ suc (length xs)
     on true h = omega arith
     on false h = omega arith
 
@@ -40,9 +40,9 @@ module _ {A : Type 0} (r : A → A → Bool) where
 pub boundary-most : (t : Float) (es : List Event) → length (atBoundary t es) ≤ 3 + (length es + length es)
 unfolding atBoundary
 boundary-most t es =
-    let a = keep-most (isReset t) es in
-    let b = keep-most (isBolus t) es in
-    let s = sort-length byOrder (keep (isReset t) es) in
+    let a = filter-most (isReset t) es in
+    let b = filter-most (isBolus t) es in
+    let s = sort-length byOrder (filter (isReset t) es) in
     let j = length-append (resets t es) (boluses t es) in
     let m = length-map (resets t es ++ boluses t es) (apply t) in
     let k = length-append (map (apply t) (resets t es ++ boluses t es)) (post t ∷ []) in
@@ -56,7 +56,7 @@ boundary-most t es =
 pub interval-most : (t : Float) (r : List Float) (u : Float) (ss : List Float) → length (onInterval t r u ss) ≤ 2 + length ss
 unfolding onInterval
 interval-most t r u ss =
-    let a = keep-most (λ (s : Float). lt t s && lt s u) ss in
+    let a = filter-most (λ (s : Float). lt t s && lt s u) ss in
     let m = length-map (inside t u ss) (reading t r) in
     omega (arith, length-append (map (reading t r) (inside t u ss)) (arrive t r u ∷ []))
 
@@ -64,7 +64,8 @@ interval-most t r u ss =
 abbrev pub most : List Event → List Float → ℕ
 most es ss = 5 + (length es + length es) + length ss
 
-following-most : (n : ℕ) (es : List Event) (ss : List Float) (ms : List Bool) (t : Float) (us : List Float) → length (following n es ss ms t us) ≤ suc (length us) * most es ss
+following-most : (n : ℕ) (es : List Event) (ss : List Float) (ms : List Bool) (t : Float) (us : List Float)
+    → length (following n es ss ms t us) ≤ suc (length us) * most es ss
 unfolding following
 following-most n es ss ms t [] = omega (arith, boundary-most t es, suc-mul 0 (most es ss))
 following-most n es ss ms t (u ∷ us) =

@@ -10,7 +10,7 @@ use lib.Seq.{take-all}
 use borrow.Rule.Slice.PartMut.{putMid, post-is}
 use Rattle.protocol.specs.Execute.{Row}
 use Rattle.protocol.specs.Entry.{sideCode}
-use Rattle.rows.specs.Written.{put, Cells, rowAt, written, Room}
+use Rattle.rows.specs.Written.{put, Cells, withRowAt, written, RoomForRows}
 
 pub put-length : {A : Type 0} (k : ℕ) (rs xs : List A) → length (put k rs xs) ≡ length xs
 put-length zero [] xs = refl
@@ -57,7 +57,7 @@ put-lent {A} k rs xs ys h e =
 pub written-append : (n k : ℕ) (rs ts : List Row) (c : Cells) → written n k (rs ++ ts) c ≡ written n (k + length rs) ts (written n k rs c)
 written-append n k [] ts c = ap (λ (j : ℕ). written n j ts c) (sym (add-zero k))
 written-append n k (r ∷ rs) ts c =
-    written-append n (suc k) rs ts (rowAt n k r c) ∙ ap (λ (j : ℕ). written n j ts (written n (suc k) rs (rowAt n k r c))) (moved k (length rs))
+    written-append n (suc k) rs ts (withRowAt n k r c) ∙ ap (λ (j : ℕ). written n j ts (written n (suc k) rs (withRowAt n k r c))) (moved k (length rs))
   where
     moved : (k j : ℕ) → suc k + j ≡ k + suc j
     moved k j = omega arith
@@ -70,14 +70,14 @@ pub record Same (c d : Cells) : Type 0 where
 pub written-same : (n k : ℕ) (rs : List Row) (c : Cells) → Same c (written n k rs c)
 written-same n k [] c = record { times = refl; sides = refl; values = refl }
 written-same n k (r ∷ rs) c =
-    let h = written-same n (suc k) rs (rowAt n k r c) in
+    let h = written-same n (suc k) rs (withRowAt n k r c) in
     record {
       times = h .times ∙ put-length k (r .time ∷ []) (c .times);
       sides = h .sides ∙ put-length k (sideCode (r .side) ∷ []) (c .sides);
       values = h .values ∙ put-length (k * n) (r .amounts) (c .values);
     }
 
-pub room-less : (n j k : ℕ) (c d : Cells) → j ≤ k → Same c d → Room n k c → Room n j d
+pub room-less : (n j k : ℕ) (c d : Cells) → j ≤ k → Same c d → RoomForRows n k c → RoomForRows n j d
 room-less n j k c d l s h =
     let m = mul-le-mul-right n l in
     record { times = omega (arith, s .times, h .times); sides = omega (arith, s .sides, h .sides); values = omega (arith, s .values, h .values) }
@@ -88,7 +88,7 @@ pub record Here (n k : ℕ) (c : Cells) : Type 0 where
   pub sides : k < length (c .sides)
   pub values : k * n + n ≤ length (c .values)
 
-pub room-here : (n k : ℕ) {c : Cells} → Room n (k + 1) c → Here n k c
+pub room-here : (n k : ℕ) {c : Cells} → RoomForRows n (k + 1) c → Here n k c
 room-here n k h =
     let e : (k + 1) * n ≡ k * n + n = ap (λ (j : ℕ). j * n) (add-one k) ∙ suc-mul k n in
     record { times = omega (arith, h .times); sides = omega (arith, h .sides); values = omega (arith, h .values) }

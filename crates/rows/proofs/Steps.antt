@@ -15,8 +15,8 @@ use Rattle.refusal.specs.declared.Reply.the-variants.{Done, Refused}
 use Rattle.binary64.specs.Lists.{all}
 use Rattle.protocol.specs.Schedule.{rates, reading, arrive}
 use Rattle.protocol.specs.Execute.{Propagator, Reading, propagate, execute, run}
-use Rattle.rows.specs.Written.{Cells, cells, put, rowAt}
-use Rattle.rows.specs.Told.{after, movedOf, Ran}
+use Rattle.rows.specs.Written.{Cells, cells, put, withRowAt}
+use Rattle.rows.specs.Standing.{after, movedOf, Ran}
 use Rattle.rows.specs.declared.Progress.{Progress}
 use Rattle.rows.specs.declared.Move.{Move}
 
@@ -39,12 +39,13 @@ module _ {advance : Propagator} {n : ℕ} (start : Progress) (c : Cells) where
       pub read-done :
           m .reply ≡ Done
           → Ran advance n start (reading t r s ∷ []) c (record { reply = Done; time = plusZero; amounts = start .amounts; left = start .left - 1; made = start .made + 1; rows = start .rows + 1 })
-          (rowAt n (start .rows) (record { time = s; side = Reading; amounts = take n (m .amounts) }) c)
+          (withRowAt n (start .rows) (record { time = s; side = Reading; amounts = take n (m .amounts) }) c)
       unfolding after run execute propagate
       read-done f = record { progress = rw (lt-ltb 0 (start .left) g, ← e, f); cells = rw (lt-ltb 0 (start .left) g, ← e, f) }
 
       pub read-row :
-          m .reply ≡ Done → {ts : List Float} {ss : List ℕ} {vs : List Float} → ts ≡ put (start .rows) (s ∷ []) (c .times) → ss ≡ put (start .rows) (2 ∷ []) (c .sides)
+          m .reply ≡ Done → {ts : List Float} {ss : List ℕ} {vs : List Float} → ts ≡ put (start .rows) (s ∷ []) (c .times)
+          → ss ≡ put (start .rows) (2 ∷ []) (c .sides)
           → vs ≡ put (start .rows * n) (take n (m .amounts)) (c .values)
           → Ran advance n start (reading t r s ∷ []) c (record { reply = Done; time = plusZero; amounts = start .amounts; left = start .left - 1; made = start .made + 1; rows = start .rows + 1 }) (cells ts ss vs)
       read-row f a b v = rw (a, b, v) (read-done f)

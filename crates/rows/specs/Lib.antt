@@ -1,2 +1,2 @@
 pub mod Written
-pub mod Told
+pub mod Standing

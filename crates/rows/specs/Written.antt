@@ -23,8 +23,8 @@ abbrev pub cells : List Float → List ℕ → List Float → Cells
 cells ts ss vs = record { times = ts; sides = ss; values = vs }
 
 -- row k of n amounts
-abbrev pub rowAt : ℕ → ℕ → Row → Cells → Cells
-rowAt n k r c = record {
+abbrev pub withRowAt : ℕ → ℕ → Row → Cells → Cells
+withRowAt n k r c = record {
   times = put k (r .time ∷ []) (c .times);
   sides = put k (sideCode (r .side) ∷ []) (c .sides);
   values = put (k * n) (r .amounts) (c .values);
@@ -33,10 +33,10 @@ rowAt n k r c = record {
 -- the rows from row k on
 abbrev pub written : ℕ → ℕ → List Row → Cells → Cells
 written n k [] c = c
-written n k (r ∷ rs) c = written n (suc k) rs (rowAt n k r c)
+written n k (r ∷ rs) c = written n (suc k) rs (withRowAt n k r c)
 
 -- room for so many rows of n amounts
-pub record Room (n rows : ℕ) (c : Cells) : Type 0 where
+pub record RoomForRows (n rows : ℕ) (c : Cells) : Type 0 where
   pub times : rows ≤ length (c .times)
   pub sides : rows ≤ length (c .sides)
   pub values : rows * n ≤ length (c .values)

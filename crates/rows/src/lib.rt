@@ -1,19 +1,21 @@
 // The blocks of a run: a row written into lent slices, the kernel's advance and the arrival at a boundary; zeros over the reckoned rows.
+use limits::STATES;
 use linear_pk::LinearPk;
-use matrix::STATES;
 use refusal::Refusal;
 use refusal::Reply;
 ghost use mathlib.Core.Path.{_≡_};
 ghost use mathlib.Core.List.{[], _∷_, _++_};
 ghost use Prim.Native.Nat.{ℕ, _+_, _*_, _≤_, _<_};
 ghost use lib.ListN.{length, take, drop};
+ghost use Rattle.limits.specs.Limits.{states};
 ghost use Rattle.protocol.specs.Schedule.{arrive as arrives};
 ghost use Rattle.rows.specs.Written.{Cells, put};
-ghost use Rattle.rows.specs.Told.{isRefused, kernelAdvance, movedOf, Ran};
+ghost use Rattle.rows.specs.Standing.{isRefused, kernelAdvance, movedOf, Ran};
 ghost use Rattle.binary64.specs.Doubles.{plusZero};
-ghost use Rattle.protocol.specs.Entry.{laid};
+ghost use Rattle.protocol.specs.Entry.{frontThenZeros};
 
-// Where a run has come to: whether it was refused and at which time; the amounts, what is left of the budget of advances, the advances made, and the rows written.
+// Where a run has come to: whether it was refused and at which time; the amounts, what is left of the budget of advances, the advances
+// made, and the rows written.
 pub struct Progress {
     pub reply: Reply,
     pub time: f64,
@@ -65,7 +67,7 @@ pub fn put_row(
     side: u8,
     amounts: [f64; STATES],
 )
-    requires { ⌜ (n ≤ 4) × (row < length (now times)) × (row < length (now sides)) × (row * n + n ≤ length (now values)) ⌝ }
+    requires { ⌜ (n ≤ states) × (row < length (now times)) × (row < length (now sides)) × (row * n + n ≤ length (now values)) ⌝ }
     ensures { λ _. ⌜ (now (times .exit) ≡ put row (time ∷ []) (now (times .entry))) × (now (sides .exit) ≡ put row (side ∷ []) (now (sides .entry)))
         × (now (values .exit) ≡ put (row * n) (take n amounts) (now (values .entry))) ⌝ }
 {
@@ -84,7 +86,7 @@ pub fn propagate(
     rates: [f64; STATES],
     duration: f64,
 ) -> Move
-    requires { ⌜ n ≤ 4 ⌝ }
+    requires { ⌜ n ≤ states ⌝ }
     ensures { λ r. ⌜ movedOf n r ≡ kernelAdvance kernel n (take n amounts) (take n rates) duration ⌝ }
 {
     let mut next = [0.0f64; STATES];
@@ -106,7 +108,7 @@ pub fn arrive(
     u: f64,
     start: Progress,
 ) -> Progress
-    requires { ⌜ (n ≤ 4) × (start .made < 4294967296) ⌝ }
+    requires { ⌜ (n ≤ states) × (start .made < 4294967296) ⌝ }
     ensures { λ r. ⌜ ((c : Cells) → Ran (kernelAdvance kernel n) n start (arrives t (take n rates) u ∷ []) c r c) ⌝ }
 {
     let amounts = start.amounts;
@@ -151,7 +153,7 @@ pub fn arrive(
 // The first k cells, of times or of values.
 pub fn clear_reals(list: &mut [f64], k: usize)
     requires { ⌜ k ≤ length (now list) ⌝ }
-    ensures { λ _. ⌜ now (list .exit) ≡ laid plusZero k [] (now (list .entry)) ⌝ }
+    ensures { λ _. ⌜ now (list .exit) ≡ frontThenZeros plusZero k [] (now (list .entry)) ⌝ }
 {
     for i in 0..k {
         list[i] = 0.0;
@@ -161,7 +163,7 @@ pub fn clear_reals(list: &mut [f64], k: usize)
 // The first k sides.
 pub fn clear_sides(list: &mut [u8], k: usize)
     requires { ⌜ k ≤ length (now list) ⌝ }
-    ensures { λ _. ⌜ now (list .exit) ≡ laid 0 k [] (now (list .entry)) ⌝ }
+    ensures { λ _. ⌜ now (list .exit) ≡ frontThenZeros 0 k [] (now (list .entry)) ⌝ }
 {
     for i in 0..k {
         list[i] = 0;

@@ -14,7 +14,7 @@ use Rattle.protocol.specs.Events.{inside}
 use Rattle.protocol.specs.Schedule.{rates, reading, arrive, onInterval}
 use Rattle.protocol.specs.Execute.{Propagator}
 use Rattle.rows.specs.Written.{Cells}
-use Rattle.rows.specs.Told.{isRefused, Ran, Fits}
+use Rattle.rows.specs.Standing.{isRefused, Ran, Fits}
 use Rattle.rows.specs.declared.Progress.{Progress}
 use Rattle.rows.proofs.Parts.{fresh, fits-first, fits-then, fits-afresh, ran-stops, ran-then, ran-afresh}
 use Rattle.rows.proofs.Steps.{rates-refused, rates-pass}
@@ -47,6 +47,7 @@ module _ (advance : Propagator) (n : ℕ) (start : Progress) (t : Float) (r : Li
           let g = fits-then (map (reading t r) (inside t u ss)) (arrive t r u ∷ []) (both-fit f) (ran-afresh h) in
           omega (arith, g .few)
 
-      pub interval-arrives : {q : Progress} → isRefused (p .reply) ≡ false → Ran advance n p (arrive t r u ∷ []) d q d → Ran advance n start (onInterval t r u ss) c q d
+      pub interval-arrives : {q : Progress} → isRefused (p .reply) ≡ false → Ran advance n p (arrive t r u ∷ []) d q d
+          → Ran advance n start (onInterval t r u ss) c q d
       unfolding onInterval
       interval-arrives s g = ran-then passes refl (ran-then (ran-afresh h) s g)

@@ -8,20 +8,20 @@ use mathlib.Core.List.{List, [], _∷_, _++_, map, append-nil}
 use lib.ListN.{length, getD, take, drop, take-append-drop}
 use lib.Seq.{take-suc, take-all}
 use lib.Ieee.{Float, nan, lt}
-use Rattle.binary64.specs.Lists.{pick, keep}
+use Rattle.binary64.specs.Lists.{pick, filter}
 use Rattle.protocol.specs.Events.{inside}
 use Rattle.protocol.specs.Schedule.{Step, reading}
 use Rattle.protocol.specs.Execute.{Propagator}
 use Rattle.rows.specs.Written.{Cells}
-use Rattle.rows.specs.Told.{isRefused, Ran, Fits}
+use Rattle.rows.specs.Standing.{isRefused, Ran, Fits}
 use Rattle.rows.specs.declared.Progress.{Progress}
 use Rattle.rows.proofs.Parts.{fresh, ran-nothing, ran-then, ran-stops, fits-first, fits-then}
 
-keep-append : {A : Type 0} (p : A → Bool) (xs ys : List A) → keep p (xs ++ ys) ≡ keep p xs ++ keep p ys
-keep-append p [] ys = refl
-keep-append {A} p (x ∷ xs) ys = on (p x) (keep-append p xs ys)
+filter-append : {A : Type 0} (p : A → Bool) (xs ys : List A) → filter p (xs ++ ys) ≡ filter p xs ++ filter p ys
+filter-append p [] ys = refl
+filter-append {A} p (x ∷ xs) ys = on (p x) (filter-append p xs ys)
   where
-    on : (b : Bool) → keep p (xs ++ ys) ≡ keep p xs ++ keep p ys → pick b x (keep p (xs ++ ys)) ≡ pick b x (keep p xs) ++ keep p ys
+    on : (b : Bool) → filter p (xs ++ ys) ≡ filter p xs ++ filter p ys → pick b x (filter p (xs ++ ys)) ≡ pick b x (filter p xs) ++ filter p ys
     on true h = ap (_∷_ x) h
     on false h = h
 
@@ -34,7 +34,7 @@ module _ (t : Float) (r : List Float) (u : Float) where
   reads ss = map (reading t r) (inside t u ss)
 
   reads-append : (xs ys : List Float) → reads (xs ++ ys) ≡ reads xs ++ reads ys
-  reads-append xs ys = ap (map (reading t r)) (keep-append (λ (s : Float). lt t s && lt s u) xs ys) ∙ map-append (reading t r) (inside t u xs) (inside t u ys)
+  reads-append xs ys = ap (map (reading t r)) (filter-append (λ (s : Float). lt t s && lt s u) xs ys) ∙ map-append (reading t r) (inside t u xs) (inside t u ys)
 
   -- the first k samples
   abbrev readsTo : List Float → ℕ → List Step
@@ -45,7 +45,9 @@ module _ (t : Float) (r : List Float) (u : Float) where
     reads-more = ap (λ (j : ℕ). readsTo ss j) (add-one k) ∙ ap reads (take-suc ss k nan l) ∙ reads-append (take k ss) (getD ss k nan ∷ [])
 
     reads-whole : reads ss ≡ (readsTo ss k ++ reads (getD ss k nan ∷ [])) ++ reads (drop (k + 1) ss)
-    reads-whole = ap reads (sym (take-append-drop (k + 1) ss)) ∙ reads-append (take (k + 1) ss) (drop (k + 1) ss) ∙ ap (λ (x : List Step). x ++ reads (drop (k + 1) ss)) reads-more
+    reads-whole =
+        ap reads (sym (take-append-drop (k + 1) ss)) ∙ reads-append (take (k + 1) ss) (drop (k + 1) ss)
+        ∙ ap (λ (x : List Step). x ++ reads (drop (k + 1) ss)) reads-more
 
     one-read : lt t (getD ss k nan) ≡ true → lt (getD ss k nan) u ≡ true → reads (getD ss k nan ∷ []) ≡ reading t r (getD ss k nan) ∷ []
     one-read e f = ap₂ (λ (b c : Bool). map (reading t r) (pick (b && c) (getD ss k nan) [])) e f
@@ -57,7 +59,8 @@ module _ (t : Float) (r : List Float) (u : Float) where
     late e f = ap₂ (λ (b c : Bool). map (reading t r) (pick (b && c) (getD ss k nan) [])) e f
 
 -- k samples are through
-pub record Through (advance : Propagator) (n : ℕ) (start : Progress) (t : Float) (r : List Float) (u : Float) (ss : List Float) (old : Cells) (p : Progress) (k : ℕ) (c : Cells) : Type 0 where
+pub record Through (advance : Propagator) (n : ℕ) (start : Progress) (t : Float) (r : List Float) (u : Float) (ss : List Float)
+    (old : Cells) (p : Progress) (k : ℕ) (c : Cells) : Type 0 where
   pub below : k ≤ length ss
   pub going : isRefused (p .reply) ≡ false
   pub ran : Ran advance n start (readsTo t r u ss k) old p c
@@ -75,7 +78,9 @@ module _ {advance : Propagator} {n : ℕ} {t : Float} {r : List Float} {u : Floa
       passed e = record {
         below = omega arith;
         going = h .going;
-        ran = subst (λ (x : List Step). Ran advance n start x old p c) (sym (reads-more t r u ss k l ∙ ap (λ (x : List Step). readsTo t r u ss k ++ x) e ∙ append-nil (readsTo t r u ss k))) (h .ran);
+        ran =
+            subst (λ (x : List Step). Ran advance n start x old p c) (sym (reads-more t r u ss k l
+            ∙ ap (λ (x : List Step). readsTo t r u ss k ++ x) e ∙ append-nil (readsTo t r u ss k))) (h .ran);
       }
 
       pub through-early : lt t (getD ss k nan) ≡ false → Through advance n start t r u ss old p (k + 1) c
@@ -92,14 +97,23 @@ module _ {advance : Propagator} {n : ℕ} {t : Float} {r : List Float} {u : Floa
         through-fits g =
             fits-then (readsTo t r u ss k) (reading t r (getD ss k nan) ∷ [])
             (fits-first (readsTo t r u ss k ++ (reading t r (getD ss k nan) ∷ [])) (reads t r u (drop (k + 1) ss))
-            (subst (λ (x : List Step). Fits n start x old) (reads-whole t r u ss k l ∙ ap (λ (x : List Step). (readsTo t r u ss k ++ x) ++ reads t r u (drop (k + 1) ss)) (sym one)) g)) (h .ran)
+            (subst (λ (x : List Step). Fits n start x old) (reads-whole t r u ss k l
+            ∙ ap (λ (x : List Step). (readsTo t r u ss k ++ x) ++ reads t r u (drop (k + 1) ss)) (sym one)) g)) (h .ran)
 
         module _ {q : Progress} {d : Cells} (g : Ran advance n p (reading t r (getD ss k nan) ∷ []) c q d) where
           joined : Ran advance n start (readsTo t r u ss k ++ reads t r u (getD ss k nan ∷ [])) old q d
           joined = subst (λ (x : List Step). Ran advance n start (readsTo t r u ss k ++ x) old q d) one (ran-then (h .ran) (h .going) g)
 
           pub through-stops : isRefused (q .reply) ≡ true → Ran advance n start (map (reading t r) (inside t u ss)) old q d
-          through-stops s = subst (λ (x : List Step). Ran advance n start x old q d) (sym (reads-whole t r u ss k l)) (ran-stops (reads t r u (drop (k + 1) ss)) joined s)
+          through-stops s =
+              subst (λ (x : List Step). Ran advance n start x old q d) (sym (reads-whole t r u ss k l))
+              (ran-stops (reads t r u (drop (k + 1) ss)) joined s)
 
           pub through-more : isRefused (q .reply) ≡ false → Through advance n start t r u ss old q (k + 1) d
-          through-more s = record { below = omega arith; going = s; ran = subst (λ (x : List Step). Ran advance n start x old q d) (sym (reads-more t r u ss k l)) joined }
+          through-more s =
+              record {
+                below = omega arith;
+                going = s;
+                ran = subst (λ (x : List Step). Ran advance n start x old q d)
+                    (sym (reads-more t r u ss k l)) joined;
+              }

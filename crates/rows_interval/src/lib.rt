@@ -1,7 +1,7 @@
 // From a boundary to the next: the readings strictly inside, and the arrival.
 use binary64::Test;
+use limits::STATES;
 use linear_pk::LinearPk;
-use matrix::STATES;
 use refusal::Refusal;
 use refusal::Reply;
 use rows::Progress;
@@ -9,7 +9,7 @@ ghost use mathlib.Core.List.{[], _∷_, map};
 ghost use lib.ListN.{take};
 ghost use Rattle.protocol.specs.Schedule.{reading, onInterval};
 ghost use Rattle.rows.specs.Written.{cells};
-ghost use Rattle.rows.specs.Told.{kernelAdvance, Ran, Fits};
+ghost use Rattle.rows.specs.Standing.{kernelAdvance, Ran, Fits};
 ghost use mathlib.Core.Path.{_≡_};
 ghost use lib.Ieee.Scale.{finite};
 ghost use Rattle.binary64.specs.Lists.{all};
@@ -28,7 +28,8 @@ pub fn read(
     values: &mut [f64],
 ) -> Progress
     requires { ⌜ Fits n start (reading t (take n rates) s ∷ []) (cells (now times) (now sides) (now values)) ⌝ }
-    ensures { λ r. ⌜ Ran (kernelAdvance kernel n) n start (reading t (take n rates) s ∷ []) (cells (now (times .entry)) (now (sides .entry)) (now (values .entry)))
+    ensures { λ r. ⌜ Ran (kernelAdvance kernel n) n start (reading t (take n rates) s ∷ [])
+        (cells (now (times .entry)) (now (sides .entry)) (now (values .entry)))
         r (cells (now (times .exit)) (now (sides .exit)) (now (values .exit))) ⌝ }
 {
     let amounts = start.amounts;

@@ -25,7 +25,8 @@ pub part-words : (bs : List ℕ) (f c : ℕ) → 8 * (f + c) ≤ length bs → w
 unfolding wordsOf
 part-words bs f c h =
     ap (λ (n : ℕ). tabulate n (λ (i : ℕ). littleEndian (take 8 (drop (8 * i) (take (8 * c) (drop (8 * f) bs)))))) size
-    ∙ tabulate-take (λ (i : ℕ). littleEndian (take 8 (drop (8 * i) (take (8 * c) (drop (8 * f) bs))))) 0 c (drop f (wordsOf bs)) (omega (arith, length-drop f (wordsOf bs), whole)) held
+    ∙ tabulate-take (λ (i : ℕ). littleEndian (take 8 (drop (8 * i) (take (8 * c) (drop (8 * f) bs))))) 0 c (drop f (wordsOf bs))
+    (omega (arith, length-drop f (wordsOf bs), whole)) held
   where
     whole : length (wordsOf bs) ≡ length bs / 8
     whole = tabulate-length (λ (i : ℕ). littleEndian (take 8 (drop (8 * i) bs))) (length bs / 8)
@@ -35,7 +36,8 @@ part-words bs f c h =
 
     held : (k : ℕ) → k < c → littleEndian (take 8 (drop (8 * k) (take (8 * c) (drop (8 * f) bs)))) ≡ getD (drop f (wordsOf bs)) k 0
     held k l =
-        ap littleEndian (ap (take 8) (drop-take (8 * k) (8 * c) (drop (8 * f) bs)) ∙ take-take 8 (8 * c - 8 * k) (drop (8 * k) (drop (8 * f) bs)) (omega arith) ∙ ap (take 8) (drop-drop (8 * k) (8 * f) bs))
+        ap littleEndian (ap (take 8) (drop-take (8 * k) (8 * c) (drop (8 * f) bs))
+        ∙ take-take 8 (8 * c - 8 * k) (drop (8 * k) (drop (8 * f) bs)) (omega arith) ∙ ap (take 8) (drop-drop (8 * k) (8 * f) bs))
         ∙ ap (λ (n : ℕ). littleEndian (take 8 (drop n bs))) (eights f k)
         ∙ sym (getD-drop f (wordsOf bs) k 0 ∙ word-at bs (f + k) (omega arith))
       where

@@ -8,17 +8,19 @@ use borrow.Author.Tests.{eqb-true}
 use lib.Dec.{T, eqb, leb}
 use lib.ListN.{length, take, drop, length-drop}
 use lib.Seq.{length-take-le}
-use Rattle.sheet.specs.Sheet.{firstOf, countOf, body, follow}
+use Rattle.sheet.specs.Sheet.{firstWord, wordCount, body, follow}
 use Rattle.sheet.specs.Reader.{nextOf, windowAt, amountsAt, samplesAt, eventsAt, endAt, placesOf, Located}
 pub use Rattle.sheet_words.proofs.Bytes.{words-length}
 
-step : (ws : List ℕ) (at k : ℕ) (ks : List ℕ) → follow ws at (k ∷ ks) ≡ true → (at ≡ firstOf ws k) × (nextOf ws at k ≡ at + countOf ws k) × (follow ws (nextOf ws at k) ks ≡ true)
+step : (ws : List ℕ) (at k : ℕ) (ks : List ℕ) → follow ws at (k ∷ ks) ≡ true
+    → (at ≡ firstWord ws k) × (nextOf ws at k ≡ at + wordCount ws k) × (follow ws (nextOf ws at k) ks ≡ true)
 unfolding nextOf
-step ws at k ks h = on (eqb (firstOf ws k) at) refl (leb (at + countOf ws k) (length ws)) h
+step ws at k ks h = on (eqb (firstWord ws k) at) refl (leb (at + wordCount ws k) (length ws)) h
   where
-    on : (a : Bool) → eqb (firstOf ws k) at ≡ a → (b : Bool) → a && (b && follow ws (at + countOf ws k) ks) ≡ true
-        → (at ≡ firstOf ws k) × (cond (a && b) (at + countOf ws k) (length ws + 1) ≡ at + countOf ws k) × (follow ws (cond (a && b) (at + countOf ws k) (length ws + 1)) ks ≡ true)
-    on true e true q = (sym (eqb-true (firstOf ws k) at e), refl, q)
+    on : (a : Bool) → eqb (firstWord ws k) at ≡ a → (b : Bool) → a && (b && follow ws (at + wordCount ws k) ks) ≡ true
+        → (at ≡ firstWord ws k) × (cond (a && b) (at + wordCount ws k) (length ws + 1) ≡ at + wordCount ws k)
+        × (follow ws (cond (a && b) (at + wordCount ws k) (length ws + 1)) ks ≡ true)
+    on true e true q = (sym (eqb-true (firstWord ws k) at e), refl, q)
     on true e false q = absurd (subst T (sym q) tt)
     on false e b q = absurd (subst T (sym q) tt)
 
@@ -39,8 +41,9 @@ located ws h =
     }
 
 -- ---- a body between two places
-pub body-at : (ws : List ℕ) (first end k : ℕ) → first ≡ firstOf ws k → end ≡ first + countOf ws k → take (end - first) (drop first ws) ≡ body ws k
-body-at ws first end k a b = let e : end - first ≡ countOf ws k = omega arith in rw (e, a)
+pub body-at : (ws : List ℕ) (first end k : ℕ) → first ≡ firstWord ws k → end ≡ first + wordCount ws k → take (end - first) (drop first ws) ≡ body ws k
+body-at ws first end k a b = let e : end - first ≡ wordCount ws k = omega arith in rw (e, a)
 
-pub body-length : (ws : List ℕ) (first end k : ℕ) → first ≡ firstOf ws k → end ≡ first + countOf ws k → end ≤ length ws → length (body ws k) ≡ end - first
-body-length ws first end k a b l = ap length (sym (body-at ws first end k a b)) ∙ length-take-le (end - first) (drop first ws) (omega (arith, length-drop first ws))
+pub body-length : (ws : List ℕ) (first end k : ℕ) → first ≡ firstWord ws k → end ≡ first + wordCount ws k → end ≤ length ws → length (body ws k) ≡ end - first
+body-length ws first end k a b l =
+    ap length (sym (body-at ws first end k a b)) ∙ length-take-le (end - first) (drop first ws) (omega (arith, length-drop first ws))

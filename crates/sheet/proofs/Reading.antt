@@ -7,6 +7,7 @@ use native.Mathlib.Omega.{arith}
 use borrow.Author.Tests.{leb-true}
 use lib.Dec.{T, eqb, leb}
 use lib.ListN.{length}
+use Rattle.limits.specs.Limits.{mostCycleEvents, mostSamples, eventSize}
 use Rattle.refusal.specs.Result.{Result, refused, done, andThen, unless, number}
 use Rattle.sheet.specs.Sheet.{wordsOf, word, follow, placed, Sheet, sheetOf, bodiesFit, wordsFit, withinLimits, readSheet}
 use Rattle.sheet.specs.Reader.{placesOf, Located}
@@ -18,9 +19,11 @@ answer fit s = andThen (unless fit 40 s) (λ (x : Sheet). unless (withinLimits x
 
 module _ (bs : List ℕ) where
   -- the two tests of the head, and that of the bodies
-  by-tests : {a b : Bool} → wordsFit bs && placed (wordsOf bs) ≡ a → bodiesFit (sheetOf (wordsOf bs)) ≡ b → readSheet bs ≡ answer (a && b) (sheetOf (wordsOf bs))
+  by-tests : {a b : Bool} → wordsFit bs && placed (wordsOf bs) ≡ a → bodiesFit (sheetOf (wordsOf bs)) ≡ b
+      → readSheet bs ≡ answer (a && b) (sheetOf (wordsOf bs))
   unfolding readSheet
-  by-tests {a} {b} p q = ap (λ (f : Bool). answer f (sheetOf (wordsOf bs))) (regroup (wordsFit bs) (placed (wordsOf bs)) (bodiesFit (sheetOf (wordsOf bs))) ∙ ap₂ _&&_ p q)
+  by-tests {a} {b} p q = ap (λ (f : Bool). answer f (sheetOf (wordsOf bs))) (regroup (wordsFit bs) (placed (wordsOf bs))
+      (bodiesFit (sheetOf (wordsOf bs))) ∙ ap₂ _&&_ p q)
     where
       regroup : (x y z : Bool) → x && (y && z) ≡ (x && y) && z
       regroup true y z = refl
@@ -32,10 +35,12 @@ module _ (bs : List ℕ) where
   pub no-bodies : wordsFit bs && placed (wordsOf bs) ≡ true → bodiesFit (sheetOf (wordsOf bs)) ≡ false → readSheet bs ≡ refused 40
   no-bodies p q = by-tests p q
 
-  pub over-limits : wordsFit bs && placed (wordsOf bs) ≡ true → bodiesFit (sheetOf (wordsOf bs)) ≡ true → withinLimits (sheetOf (wordsOf bs)) ≡ false → readSheet bs ≡ refused 5
+  pub over-limits : wordsFit bs && placed (wordsOf bs) ≡ true → bodiesFit (sheetOf (wordsOf bs)) ≡ true
+      → withinLimits (sheetOf (wordsOf bs)) ≡ false → readSheet bs ≡ refused 5
   over-limits p q l = by-tests p q ∙ ap (λ (w : Bool). unless w 5 (sheetOf (wordsOf bs))) l
 
-  pub reads : wordsFit bs && placed (wordsOf bs) ≡ true → bodiesFit (sheetOf (wordsOf bs)) ≡ true → withinLimits (sheetOf (wordsOf bs)) ≡ true → readSheet bs ≡ done (sheetOf (wordsOf bs))
+  pub reads : wordsFit bs && placed (wordsOf bs) ≡ true → bodiesFit (sheetOf (wordsOf bs)) ≡ true
+      → withinLimits (sheetOf (wordsOf bs)) ≡ true → readSheet bs ≡ done (sheetOf (wordsOf bs))
   reads p q l = by-tests p q ∙ ap (λ (w : Bool). unless w 5 (sheetOf (wordsOf bs))) l
 
   -- what is read passes each test
@@ -53,7 +58,8 @@ module _ (bs : List ℕ) where
           no : {c : ℕ} → suc c ≡ 0 → ⊥
           no q = omega arith
 
-      on : (a : Bool) → wordsFit bs && placed (wordsOf bs) ≡ a → (b : Bool) → bodiesFit (sheetOf (wordsOf bs)) ≡ b → (c : Bool) → withinLimits (sheetOf (wordsOf bs)) ≡ c → Passes
+      on : (a : Bool) → wordsFit bs && placed (wordsOf bs) ≡ a → (b : Bool) → bodiesFit (sheetOf (wordsOf bs)) ≡ b → (c : Bool)
+          → withinLimits (sheetOf (wordsOf bs)) ≡ c → Passes
       on true p true q true l = record { head = p; bodies = q; limits = l }
       on true p true q false l = not-zero (over-limits p q l)
       on true p false q c l = not-zero (no-bodies p q)
@@ -83,10 +89,14 @@ module _ (bs : List ℕ) where
     places-located = located (wordsOf bs) (head-parts .1)
 
     -- the limits, by places
-    pub limits-at : (q : Places) → q ≡ placesOf (wordsOf bs) → withinLimits (sheetOf (wordsOf bs)) ≡ leb ((q .end - q .events) / 6) 64 && leb (q .events - q .samples) 256
+    pub limits-at : (q : Places) → q ≡ placesOf (wordsOf bs)
+        → withinLimits (sheetOf (wordsOf bs)) ≡ leb ((q .end - q .events) / eventSize) mostCycleEvents
+        && leb (q .events - q .samples) mostSamples
     limits-at q e =
         let l = places-located in
         let r = placesOf (wordsOf bs) in
-        ap₂ _&&_ (ap (λ (n : ℕ). leb (n / 6) 64) (body-length (wordsOf bs) (r .events) (r .end) 4 (l .events .0) (l .events .1) (omega (arith, l .whole))))
-        (ap (λ (n : ℕ). leb n 256) (body-length (wordsOf bs) (r .samples) (r .events) 3 (l .samples .0) (l .samples .1) (omega (arith, l .events .1, l .whole))))
-        ∙ ap (λ (x : Places). leb ((x .end - x .events) / 6) 64 && leb (x .events - x .samples) 256) (sym e)
+        ap₂ _&&_ (ap (λ (n : ℕ). leb (n / eventSize) mostCycleEvents) (body-length (wordsOf bs) (r .events) (r .end) 4 (l .events .0)
+        (l .events .1) (omega (arith, l .whole))))
+        (ap (λ (n : ℕ). leb n mostSamples) (body-length (wordsOf bs) (r .samples) (r .events) 3 (l .samples .0) (l .samples .1)
+        (omega (arith, l .events .1, l .whole))))
+        ∙ ap (λ (x : Places). leb ((x .end - x .events) / eventSize) mostCycleEvents && leb (x .events - x .samples) mostSamples) (sym e)

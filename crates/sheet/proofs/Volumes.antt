@@ -5,11 +5,12 @@ use Prim.Native.Nat.{ℕ, _+_, _*_, _%_, _≤_}
 use native.Mathlib.Nat.{mod-eq-of-lt}
 use native.Mathlib.Omega.{arith}
 use lib.Dec.{T, eqb, leb, leb→le}
+use Rattle.limits.specs.Limits.{states, mostVolumes}
 
--- a volume count of at most 3 is its remainder by 4
-pub by-four : (v n : ℕ) → leb v 3 && eqb n (2 * (v % 4) + 3) ≡ leb v 3 && eqb n (2 * v + 3)
-by-four v n = on (leb v 3) refl
+-- a volume count that is not above the most is its remainder by one more
+pub by-one-more : (v n : ℕ) → leb v mostVolumes && eqb n (2 * (v % states) + 3) ≡ leb v mostVolumes && eqb n (2 * v + 3)
+by-one-more v n = on (leb v mostVolumes) refl
   where
-    on : (b : Bool) → leb v 3 ≡ b → b && eqb n (2 * (v % 4) + 3) ≡ b && eqb n (2 * v + 3)
-    on true e = let l : v ≤ 3 = leb→le v 3 (subst T (sym e) tt) in ap (λ (k : ℕ). eqb n (2 * k + 3)) (mod-eq-of-lt (omega arith))
+    on : (b : Bool) → leb v mostVolumes ≡ b → b && eqb n (2 * (v % states) + 3) ≡ b && eqb n (2 * v + 3)
+    on true e = let l : v ≤ mostVolumes = leb→le v mostVolumes (subst T (sym e) tt) in ap (λ (k : ℕ). eqb n (2 * k + 3)) (mod-eq-of-lt (omega arith))
     on false e = refl

@@ -4,11 +4,12 @@ use mathlib.Core.List.{List}
 use Prim.Native.Nat.{ℕ}
 use lib.Dec.{eqb, leb}
 use lib.ListN.{length}
+use Rattle.limits.specs.Limits.{mostCycleEvents, mostSamples}
 use Rattle.refusal.specs.Result.{Result, andThen, unless}
 use Rattle.events_layout.specs.Layout.{eventCount, eventsFit}
 pub use Rattle.sheet_words.specs.Words.{littleEndian, word}
 unfoldable pub use Rattle.sheet_words.specs.Words.{wordsOf}
-pub use Rattle.sheet_words.specs.Head.{firstOf, countOf, body, follow, wordsFit}
+pub use Rattle.sheet_words.specs.Head.{firstWord, wordCount, body, follow, wordsFit}
 unfoldable pub use Rattle.sheet_words.specs.Head.{placed}
 unfoldable pub use Rattle.sheet.specs.Model.{modelFits}
 
@@ -32,7 +33,7 @@ bodiesFit s = modelFits (s .model) && (windowFits (s .window) && eventsFit (s .e
 
 -- at most 64 events and 256 samples
 abbrev pub withinLimits : Sheet → Bool
-withinLimits s = leb (eventCount (s .events)) 64 && leb (length (s .samples)) 256
+withinLimits s = leb (eventCount (s .events)) mostCycleEvents && leb (length (s .samples)) mostSamples
 
 -- 40 where the layout is broken, then 5
 unfoldable pub readSheet : List ℕ → Result Sheet

@@ -1,10 +1,17 @@
-// The reader of a sheet: bytes of any length and contents to the places of its bodies, or 40, then 5. The words stay in the file, and each body is read as its own part of it.
+// The reader of a sheet: bytes of any length and contents to the places of its bodies, or 40, then 5. The words stay in the file, and each
+// body is read as its own part of it.
+use limits::CYCLE_EVENTS;
+use limits::EVENT_SIZE;
+use limits::SAMPLES;
+use limits::STATES;
+use limits::VOLUMES;
 use refusal::Refusal;
 use refusal::Reply;
 use sheet_words::Places;
 ghost use mathlib.Core.Path.{_≡_};
 ghost use Prim.Native.Nat.{_+_, _*_, _≤_, _-_};
 ghost use lib.ListN.{length, take, drop};
+ghost use Rattle.limits.specs.Limits.{eventBytes};
 ghost use Rattle.events_layout.specs.Layout.{eventFits, eventsFit};
 ghost use Rattle.sheet_words.specs.Words.{wordsOf};
 ghost use Rattle.sheet.specs.Model.{modelFits};
@@ -13,15 +20,8 @@ ghost use Rattle.refusal.specs.Result.{number};
 ghost use Rattle.sheet.specs.Sheet.{sheetOf, bodiesFit, readSheet};
 ghost use Rattle.sheet.specs.Reader.{noPlaces, placesRead, Located};
 
-// Words of an event.
-const EVENT: usize = 6;
-
-// The words of the window, and the most events and samples of a sheet.
+// The words of the window.
 const WINDOW: usize = 9;
-
-const EVENTS: usize = 64;
-
-const SAMPLES: usize = 256;
 
 // Clearance, depot, absorption, volume count, volumes, exchanges.
 pub fn model_fits(part: &[u8]) -> bool
@@ -33,15 +33,17 @@ pub fn model_fits(part: &[u8]) -> bool
     }
     let depot = sheet_words::word(part, 1);
     let volumes = sheet_words::word(part, 3);
-    (depot <= 1) & ((1 <= volumes) & ((volumes <= 3) & (count as u64 == 2 * (volumes % 4) + 3)))
+    (depot <= 1)
+        & ((1 <= volumes)
+            & ((volumes <= VOLUMES as u64) & (count as u64 == 2 * (volumes % STATES as u64) + 3)))
 }
 
 fn event_fits(part: &[u8], i: usize) -> bool
-    requires { ⌜ 48 * i + 48 ≤ length (now part) ⌝ }
+    requires { ⌜ eventBytes * i + eventBytes ≤ length (now part) ⌝ }
     ensures { λ r. ⌜ r ≡ eventFits (wordsOf (now (part .entry))) i ⌝ }
 {
-    let at = EVENT * i;
-    events_layout::listed(
+    let at = EVENT_SIZE * i;
+    events_layout::words_listed(
         sheet_words::word(part, at),
         sheet_words::word(part, at + 4),
         sheet_words::word(part, at + 5),
@@ -52,12 +54,12 @@ pub fn events_fit(part: &[u8]) -> bool
     ensures { λ r. ⌜ r ≡ eventsFit (wordsOf (now (part .entry))) ⌝ }
 {
     let total = part.len() / 8;
-    let count = total / EVENT;
+    let count = total / EVENT_SIZE;
     let mut ok = true;
     for i in 0..count {
         ok = ok & event_fits(part, i);
     }
-    (total % EVENT == 0) & ok
+    (total % EVENT_SIZE == 0) & ok
 }
 
 // Done, 40 or 5.
@@ -103,7 +105,8 @@ fn bodies_fit(bytes: &[u8], places: Places) -> bool
 
 // A sheet's places, or 40, then 5.
 pub fn read_sheet(bytes: &[u8]) -> Read
-    ensures { λ r. ⌜ (replyNumber (r .reply) ≡ number (readSheet (now (bytes .entry)))) × (r .places ≡ placesRead (wordsOf (now (bytes .entry))) (readSheet (now (bytes .entry)))) ⌝ }
+    ensures { λ r. ⌜ (replyNumber (r .reply) ≡ number (readSheet (now (bytes .entry))))
+        × (r .places ≡ placesRead (wordsOf (now (bytes .entry))) (readSheet (now (bytes .entry)))) ⌝ }
 {
     if !sheet_words::head_fits(bytes) {
         return refused(Refusal::Layout);
@@ -112,7 +115,7 @@ pub fn read_sheet(bytes: &[u8]) -> Read
     let fits = bodies_fit(bytes, places);
     let events = places.end - places.events;
     let samples = places.events - places.samples;
-    let within = (events / EVENT <= EVENTS) & (samples <= SAMPLES);
+    let within = (events / EVENT_SIZE <= CYCLE_EVENTS) & (samples <= SAMPLES);
     if fits {
         if within {
             Read {

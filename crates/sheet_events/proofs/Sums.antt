@@ -11,7 +11,8 @@ use Rattle.sheet_events.specs.OrderedDoses.{plusDose, orderedFrom, order
 from-more : (f : ℕ → Event) (s : Float) (i m : ℕ) → orderedFrom s (tabulateFrom i (suc m) f) ≡ plusDose (orderedFrom s (tabulateFrom i m f)) (f (i + m))
 unfolding orderedFrom tabulateFrom
 from-more f s i zero = ap (λ (j : ℕ). plusDose s (f j)) (sym (add-zero i))
-from-more f s i (suc m) = from-more f (plusDose s (f i)) (suc i) m ∙ ap (λ (j : ℕ). plusDose (orderedFrom (plusDose s (f i)) (tabulateFrom (suc i) m f)) (f j)) (suc-add i m ∙ sym (add-suc i m))
+from-more f s i (suc m) = from-more f (plusDose s (f i)) (suc i) m
+    ∙ ap (λ (j : ℕ). plusDose (orderedFrom (plusDose s (f i)) (tabulateFrom (suc i) m f)) (f j)) (suc-add i m ∙ sym (add-suc i m))
 
 -- one event more
 pub ordered-more : (f : ℕ → Event) (m : ℕ) → ordered (tabulate (suc m) f) ≡ plusDose (ordered (tabulate m f)) (f m)

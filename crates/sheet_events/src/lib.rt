@@ -1,26 +1,23 @@
 // The events that a sheet's words stand for, and the sum of its doses.
-use events::EVENTS;
+use limits::EVENT_BYTES;
+use limits::EVENT_SIZE;
+use limits::EVENTS;
 use protocol::Event;
 ghost use mathlib.Core.Path.{_≡_};
 ghost use Prim.Native.Nat.{_+_, _*_, _≤_};
 ghost use lib.ListN.{length};
+ghost use Rattle.limits.specs.Limits.{mostEvents, eventBytes};
 ghost use Rattle.events_layout.specs.Layout.{eventOf, eventOrNone, eventsOf};
 ghost use Rattle.matrix.specs.Matrix.{tabulate};
 ghost use Rattle.sheet_words.specs.Words.{wordsOf};
 ghost use Rattle.sheet_events.specs.OrderedDoses.{plusDose, ordered as orderedOf};
 
-// Words of an event.
-const EVENT: usize = 6;
-
-// Bytes of an event.
-const EVENT_BYTES: usize = 48;
-
 // Event i, whose words are there.
 pub fn event_of(part: &[u8], i: usize) -> Event
-    requires { ⌜ 48 * i + 48 ≤ length (now part) ⌝ }
+    requires { ⌜ eventBytes * i + eventBytes ≤ length (now part) ⌝ }
     ensures { λ r. ⌜ r ≡ eventOf (wordsOf (now (part .entry))) i ⌝ }
 {
-    let at = EVENT * i;
+    let at = EVENT_SIZE * i;
     events_layout::event_from(
         sheet_words::word(part, at),
         sheet_words::word(part, at + 1),
@@ -34,7 +31,7 @@ pub fn event_of(part: &[u8], i: usize) -> Event
 fn event_or_none(part: &[u8], i: usize) -> Event
     ensures { λ r. ⌜ r ≡ eventOrNone (wordsOf (now (part .entry))) i ⌝ }
 {
-    if i < part.len() / 8 / EVENT {
+    if i < part.len() / 8 / EVENT_SIZE {
         event_of(part, i)
     } else {
         events::no_event()
@@ -43,7 +40,7 @@ fn event_or_none(part: &[u8], i: usize) -> Event
 
 // The events, in the first places; events past the array's end are left out.
 pub fn events_of(part: &[u8]) -> [Event; EVENTS]
-    ensures { λ r. ⌜ r ≡ tabulate 192 (eventOrNone (wordsOf (now (part .entry)))) ⌝ }
+    ensures { λ r. ⌜ r ≡ tabulate mostEvents (eventOrNone (wordsOf (now (part .entry)))) ⌝ }
 {
     let none = events::no_event();
     let mut list = [none; EVENTS];
@@ -57,24 +54,9 @@ fn plus_dose(sum: f64, event: Event) -> f64
     ensures { λ r. ⌜ r ≡ plusDose sum event ⌝ }
 {
     match event {
-        Event::Bolus {
-            time: _,
-            target: _,
-            amount,
-        } => sum + amount,
-        Event::Infusion {
-            time: _,
-            target: _,
-            amount,
-            duration: _,
-        } => sum + amount,
-        Event::Reset {
-            time: _,
-            target: _,
-            value: _,
-            order: _,
-            stops: _,
-        } => sum,
+        Event::Bolus { amount, .. } => sum + amount,
+        Event::Infusion { amount, .. } => sum + amount,
+        Event::Reset { .. } => sum,
     }
 }
 

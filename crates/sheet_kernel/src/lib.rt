@@ -1,5 +1,6 @@
 // The kernel of a sheet's model, and the tolerance of its closed cycle.
 use cycle::SteadyStateTolerance;
+use limits::VOLUMES;
 use linear_pk::LinearPk;
 use linear_pk::Made;
 use linear_pk_values::Absorption;
@@ -12,12 +13,12 @@ ghost use Rattle.linear_pk.specs.LinearPk.{noKernel};
 ghost use Rattle.refusal.specs.Result.{valueOr};
 ghost use Rattle.sheet_words.specs.Words.{wordsOf, word};
 ghost use Rattle.sheet.specs.Model.{modelFits};
-ghost use Rattle.sheet_kernel.specs.Values.{absorptionOf, modelOf};
+ghost use Rattle.sheet_kernel.specs.Values.{modelAbsorption, modelOf};
 ghost use Rattle.sheet_kernel.specs.CycleTolerance.{toleranceOf};
 
 fn absorption_of(part: &[u8]) -> Absorption
     requires { ⌜ 32 ≤ length (now part) ⌝ }
-    ensures { λ r. ⌜ r ≡ absorptionOf (wordsOf (now (part .entry))) ⌝ }
+    ensures { λ r. ⌜ r ≡ modelAbsorption (wordsOf (now (part .entry))) ⌝ }
 {
     if sheet_words::word(part, 1) == 1 {
         Absorption::FirstOrder(sheet_values::double(part, 2))
@@ -28,7 +29,8 @@ fn absorption_of(part: &[u8]) -> Absorption
 
 // The kernel of volumes and exchanges that are laid out in front.
 fn kernel_from(part: &[u8], volumes: &mut [f64], exchange: &mut [f64]) -> Made
-    requires { ⌜ (length (now volumes) ≡ word (wordsOf (now part)) 3) × (length (now exchange) ≡ word (wordsOf (now part)) 3 - 1) × (8 * (4 + (length (now volumes) + length (now exchange))) ≤ length (now part)) ⌝ }
+    requires { ⌜ (length (now volumes) ≡ word (wordsOf (now part)) 3) × (length (now exchange) ≡ word (wordsOf (now part)) 3 - 1)
+        × (8 * (4 + (length (now volumes) + length (now exchange))) ≤ length (now part)) ⌝ }
     ensures { λ r. ⌜ resultOf (r .reply) (r .kernel) ≡ modelOf (wordsOf (now (part .entry))) ⌝ }
     ensures { λ r. ⌜ r .kernel ≡ valueOr (modelOf (wordsOf (now (part .entry)))) noKernel ⌝ }
 {
@@ -50,8 +52,8 @@ pub fn kernel_of(part: &[u8]) -> Made
     ensures { λ r. ⌜ r .kernel ≡ valueOr (modelOf (wordsOf (now (part .entry)))) noKernel ⌝ }
 {
     let count = sheet_words::word(part, 3) as usize;
-    let mut volumes = [0.0f64; 3];
-    let mut exchange = [0.0f64; 2];
+    let mut volumes = [0.0f64; VOLUMES];
+    let mut exchange = [0.0f64; VOLUMES - 1];
     kernel_from(part, &mut volumes[..count], &mut exchange[..count - 1])
 }
 

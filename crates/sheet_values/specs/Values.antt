@@ -19,8 +19,8 @@ doublesFrom ws i m = tabulate m (λ k. doubleOf ws (i + k))
 abbrev pub propagationsOf : ℕ → ℕ
 propagationsOf given = cond (eqb given 0) 1000 given
 
-unfoldable pub windowOf : List ℕ → Window
-windowOf w = record {
+unfoldable pub sheetWindow : List ℕ → Window
+sheetWindow w = record {
   start = doubleOf w 0;
   end = doubleOf w 1;
   rtol = doubleOf w 2;

@@ -4,7 +4,7 @@ ghost use mathlib.Core.Path.{_≡_};
 ghost use Prim.Native.Nat.{_+_, _*_, _≤_};
 ghost use lib.ListN.{length};
 ghost use Rattle.sheet_words.specs.Words.{wordsOf};
-ghost use Rattle.sheet_values.specs.Values.{doubleOf, doublesFrom, propagationsOf, windowOf};
+ghost use Rattle.sheet_values.specs.Values.{doubleOf, doublesFrom, propagationsOf, sheetWindow};
 
 pub fn double(part: &[u8], i: usize) -> f64
     requires { ⌜ 8 * i + 8 ≤ length (now part) ⌝ }
@@ -34,7 +34,7 @@ fn propagations_of(given: u64) -> u64
 // The window of a run; 1,000 propagations where the word is 0.
 pub fn window_of(part: &[u8]) -> Window
     requires { ⌜ 72 ≤ length (now part) ⌝ }
-    ensures { λ r. ⌜ r ≡ windowOf (wordsOf (now (part .entry))) ⌝ }
+    ensures { λ r. ⌜ r ≡ sheetWindow (wordsOf (now (part .entry))) ⌝ }
 {
     Window {
         start: double(part, 0),

@@ -28,7 +28,8 @@ pub eight : (bs : List ℕ) (at : ℕ) → at + 8 ≤ length bs
     → littleEndian (take 8 (drop at bs)) ≡ littleEndian (take 4 (drop at bs)) + 4294967296 * littleEndian (take 4 (drop (at + 4) bs))
 eight bs at h = from 4 at (omega arith)
   where
-    from : (n at : ℕ) → at + 4 ≤ length bs → littleEndian (take (suc (suc (suc (suc n)))) (drop at bs)) ≡ littleEndian (take 4 (drop at bs)) + 4294967296 * littleEndian (take n (drop (at + 4) bs))
+    from : (n at : ℕ) → at + 4 ≤ length bs → littleEndian (take (suc (suc (suc (suc n)))) (drop at bs))
+        ≡ littleEndian (take 4 (drop at bs)) + 4294967296 * littleEndian (take n (drop (at + 4) bs))
     from n at h =
         let a = one (suc (suc (suc n))) bs at (omega arith) in
         let b = one (suc (suc n)) bs (at + 1) (omega arith) in

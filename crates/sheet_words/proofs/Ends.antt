@@ -7,7 +7,7 @@ use native.Mathlib.Omega.{arith}
 use borrow.Author.Tests.{ltb-true, ltb-false, leb-true, ne-eqb, le-leb, lt-leb}
 use lib.Dec.{T, eqb, leb, ltb}
 use lib.ListN.{length}
-use Rattle.sheet_words.specs.Head.{firstOf, countOf, follow}
+use Rattle.sheet_words.specs.Head.{firstWord, wordCount, follow}
 use Rattle.sheet_words.specs.Places.{nextOf}
 
 -- the place behind the bodies ks
@@ -22,9 +22,9 @@ past ws [] = refl
 past ws (k ∷ ks) = ap (λ (at : ℕ). ends ws at ks) (stays k) ∙ past ws ks
   where
     stays : (k : ℕ) → nextOf ws (length ws + 1) k ≡ length ws + 1
-    stays k = rw (lt-leb (length ws + 1 + countOf ws k) (length ws) (omega arith)) (on (eqb (firstOf ws k) (length ws + 1)))
+    stays k = rw (lt-leb (length ws + 1 + wordCount ws k) (length ws) (omega arith)) (on (eqb (firstWord ws k) (length ws + 1)))
       where
-        on : (b : Bool) → cond (b && false) (length ws + 1 + countOf ws k) (length ws + 1) ≡ length ws + 1
+        on : (b : Bool) → cond (b && false) (length ws + 1 + wordCount ws k) (length ws + 1) ≡ length ws + 1
         on true = refl
         on false = refl
 
@@ -47,13 +47,13 @@ room-left at count total h = on (ltb count (total + 1 - at)) refl
 pub ends-follow : (ws : List ℕ) (at : ℕ) (ks : List ℕ) → follow ws at ks ≡ eqb (ends ws at ks) (length ws)
 unfolding nextOf
 ends-follow ws at [] = refl
-ends-follow ws at (k ∷ ks) = on (eqb (firstOf ws k) at) (leb (at + countOf ws k) (length ws)) (ends-follow ws (at + countOf ws k) ks)
+ends-follow ws at (k ∷ ks) = on (eqb (firstWord ws k) at) (leb (at + wordCount ws k) (length ws)) (ends-follow ws (at + wordCount ws k) ks)
   where
     never : false ≡ eqb (ends ws (length ws + 1) ks) (length ws)
     never = sym (ap (λ (j : ℕ). eqb j (length ws)) (past ws ks) ∙ ne-eqb (length ws + 1) (length ws) (λ e. omega arith))
 
-    on : (a b : Bool) → follow ws (at + countOf ws k) ks ≡ eqb (ends ws (at + countOf ws k) ks) (length ws)
-        → a && (b && follow ws (at + countOf ws k) ks) ≡ eqb (ends ws (cond (a && b) (at + countOf ws k) (length ws + 1)) ks) (length ws)
+    on : (a b : Bool) → follow ws (at + wordCount ws k) ks ≡ eqb (ends ws (at + wordCount ws k) ks) (length ws)
+        → a && (b && follow ws (at + wordCount ws k) ks) ≡ eqb (ends ws (cond (a && b) (at + wordCount ws k) (length ws + 1)) ks) (length ws)
     on true true h = h
     on true false h = never
     on false b h = never

@@ -7,19 +7,19 @@ use lib.ListN.{length, take, drop}
 use Rattle.sheet_words.specs.Words.{word}
 
 -- body k: its first word and its word count, as its pair says
-abbrev pub firstOf : List ℕ → ℕ → ℕ
-firstOf ws k = word ws (1 + 2 * k)
+abbrev pub firstWord : List ℕ → ℕ → ℕ
+firstWord ws k = word ws (1 + 2 * k)
 
-abbrev pub countOf : List ℕ → ℕ → ℕ
-countOf ws k = word ws (2 + 2 * k)
+abbrev pub wordCount : List ℕ → ℕ → ℕ
+wordCount ws k = word ws (2 + 2 * k)
 
 abbrev pub body : List ℕ → ℕ → List ℕ
-body ws k = take (countOf ws k) (drop (firstOf ws k) ws)
+body ws k = take (wordCount ws k) (drop (firstWord ws k) ws)
 
 -- the bodies ks, of which the first starts at a place, each start where the one before ends, to the file's end
 abbrev pub follow : List ℕ → ℕ → List ℕ → Bool
 follow ws at [] = eqb at (length ws)
-follow ws at (k ∷ ks) = eqb (firstOf ws k) at && (leb (at + countOf ws k) (length ws) && follow ws (at + countOf ws k) ks)
+follow ws at (k ∷ ks) = eqb (firstWord ws k) at && (leb (at + wordCount ws k) (length ws) && follow ws (at + wordCount ws k) ks)
 
 -- word 0 is 5, then five pairs, then the bodies
 unfoldable pub placed : List ℕ → Bool

@@ -5,11 +5,11 @@ use mathlib.Core.List.{List}
 use Prim.Native.Nat.{ℕ, _+_}
 use lib.Dec.{eqb, leb}
 use lib.ListN.{length}
-use Rattle.sheet_words.specs.Head.{firstOf, countOf}
+use Rattle.sheet_words.specs.Head.{firstWord, wordCount}
 use Rattle.sheet_words.specs.declared.Places.{Places}
 
 unfoldable pub nextOf : List ℕ → ℕ → ℕ → ℕ
-nextOf ws at k = cond (eqb (firstOf ws k) at && leb (at + countOf ws k) (length ws)) (at + countOf ws k) (length ws + 1)
+nextOf ws at k = cond (eqb (firstWord ws k) at && leb (at + wordCount ws k) (length ws)) (at + wordCount ws k) (length ws + 1)
 
 -- behind the bodies up to k
 abbrev pub windowAt : List ℕ → ℕ
@@ -36,9 +36,9 @@ noPlaces = record { model = 0; window = 0; amounts = 0; samples = 0; events = 0;
 
 -- each body lies where its pair says, between two places, and the last ends where the file does
 pub record Located (ws : List ℕ) (p : Places) : Type 0 where
-  pub model : (p .model ≡ firstOf ws 0) × (p .window ≡ p .model + countOf ws 0)
-  pub window : (p .window ≡ firstOf ws 1) × (p .amounts ≡ p .window + countOf ws 1)
-  pub amounts : (p .amounts ≡ firstOf ws 2) × (p .samples ≡ p .amounts + countOf ws 2)
-  pub samples : (p .samples ≡ firstOf ws 3) × (p .events ≡ p .samples + countOf ws 3)
-  pub events : (p .events ≡ firstOf ws 4) × (p .end ≡ p .events + countOf ws 4)
+  pub model : (p .model ≡ firstWord ws 0) × (p .window ≡ p .model + wordCount ws 0)
+  pub window : (p .window ≡ firstWord ws 1) × (p .amounts ≡ p .window + wordCount ws 1)
+  pub amounts : (p .amounts ≡ firstWord ws 2) × (p .samples ≡ p .amounts + wordCount ws 2)
+  pub samples : (p .samples ≡ firstWord ws 3) × (p .events ≡ p .samples + wordCount ws 3)
+  pub events : (p .events ≡ firstWord ws 4) × (p .end ≡ p .events + wordCount ws 4)
   pub whole : p .end ≡ length ws

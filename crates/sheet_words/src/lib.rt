@@ -1,4 +1,5 @@
 // Little-endian words of a file, or of a part of it, and the head of a sheet: where its pairs put the bodies.
+use limits::SHEET_WORDS;
 ghost use mathlib.Core.Path.{_≡_};
 ghost use Prim.Native.Nat.{_+_, _*_, _≤_, _<_, _/_};
 ghost use lib.ListN.{length, getD, take, drop};
@@ -6,9 +7,6 @@ ghost use Rattle.sheet_words.specs.Words.{littleEndian, wordsOf, word as
 ghost use mathlib.Core.Bool.{_&&_};
 ghost use Rattle.sheet_words.specs.Head.{wordsFit, placed};
 ghost use Rattle.sheet_words.specs.Places.{nextOf, placesOf};
-
-// Words of the whole file, and of its head.
-const WORDS: usize = 8192;
 
 const HEAD: usize = 11;
 
@@ -97,5 +95,6 @@ pub fn head_fits(bytes: &[u8]) -> bool
         return false;
     }
     let places = places_of(bytes);
-    ((bytes.len() % 8 == 0) & (total <= WORDS)) & ((word(bytes, 0) == 5) & (places.end == total))
+    ((bytes.len() % 8 == 0) & (total <= SHEET_WORDS))
+        & ((word(bytes, 0) == 5) & (places.end == total))
 }

@@ -1,4 +1,5 @@
--- The kernel's advance has the laws that a run asks: 3 exactly for arguments that do not pass, else 20, 21 or 22, each exactly where its condition holds, or n amounts that pass.
+-- The kernel's advance has the laws that a run asks: 3 exactly for arguments that do not pass, else 20, 21 or 22, each exactly where its
+-- condition holds, or n amounts that pass.
 use mathlib.Core.Path.{_≡_, refl, sym, ap, _∙_, subst}
 use mathlib.Core.Bool.{Bool, true, false, not, _&&_, _||_}
 use mathlib.Core.List.{List, [], _∷_}
@@ -15,14 +16,16 @@ use Rattle.binary64.specs.Doubles.{plusZero, half, nonnegative}
 use Rattle.binary64.specs.Lists.{all, amountsPass}
 use Rattle.refusal.specs.Result.{Result, refused, done, andThen, unless}
 use Rattle.matrix.specs.Matrix.{Matrix, cell, tabulate, allTo}
-use Rattle.matrix.specs.Exponential.{Scheme, scheme, halvings, countOf, taylor, allFinite, Exponential, exponential}
+use Rattle.matrix.specs.Exponential.{Scheme, scheme, halvings, halvingCount, taylor, allFinite, Exponential, exponential}
 use Rattle.matrix.proofs.Filled.{tabulate-length}
-use Rattle.linear_pk_interval.specs.Interval.{propagator, amountTo, applied, over, interval}
+use Rattle.linear_pk_interval.specs.Interval.{propagator, amountTo, propagated, over, interval}
 use Rattle.linear_pk.specs.LinearPk.{stateCount, sound, advance}
 use Rattle.linear_pk.specs.declared.kernel.LinearPk.{LinearPk}
 use Rattle.protocol.specs.PlainRun.{oneOf, argumentsPass}
 use Rattle.protocol.proofs.Theorems.{plain-run}
-use Rattle.simulation.specs.KernelRun.{blockOf, normOf, halvedNorm, above, Takes, resultsPass, Refusal, norm-fails, halvings-fail, results-fail, EveryInterval, propagatorOf, refusalOf, EveryKernel, EveryKernelRun}
+use Rattle.simulation.specs.KernelRun.{blockOf, normOf, halvedNorm, above, TakesHalvings, resultsPass, Refusal, norm-fails}
+use Rattle.simulation.specs.KernelRun.{halvings-fail, results-fail, EveryInterval, propagatorOf, refusalOf, EveryKernel}
+use Rattle.simulation.specs.KernelRun.{EveryKernelRun}
 
 -- ---- the amounts
 abbrev Kept : ℕ → Result (List Float) → Type 0
@@ -33,8 +36,8 @@ kept-then : {A : Type 0} (n : ℕ) (r : Result A) (f : A → Result (List Float)
 kept-then n (refused c) f h = tt
 kept-then n (done a) f h = h a
 
-kept-applied : (n : ℕ) (p : Matrix) (x r : List Float) (d : Float) → Kept n (applied n p x r d)
-unfolding applied
+kept-applied : (n : ℕ) (p : Matrix) (x r : List Float) (d : Float) → Kept n (propagated n p x r d)
+unfolding propagated
 kept-applied n p x r d = on (allTo (λ j. finite (mul binary64 (cell r j) d)) n)
   where
     y : List Float
@@ -50,7 +53,9 @@ kept-applied n p x r d = on (allTo (λ j. finite (mul binary64 (cell r j) d)) n)
 
 kept-interval : (s : Scheme) (n : ℕ) (k x r : List Float) (d : Float) → T (amountsPass n x) → Kept n (interval s n k x r d)
 unfolding interval
-kept-interval s n k x r d h = on (eq d plusZero) (andThen (propagator s n k d) (λ e. applied n (e .matrix) x r d)) (kept-then n (propagator s n k d) _ (λ e. kept-applied n (e .matrix) x r d))
+kept-interval s n k x r d h =
+    on (eq d plusZero) (andThen (propagator s n k d) (λ e. propagated n (e .matrix) x r d))
+    (kept-then n (propagator s n k d) _ (λ e. kept-applied n (e .matrix) x r d))
   where
     on : (b : Bool) (w : Result (List Float)) → Kept n w → Kept n (over b x w)
     on true w g = h
@@ -73,9 +78,11 @@ module _ (s : Scheme) where
   all-above : (d n : ℕ) (x : Float) → ((j : ℕ) → j < d → T (above s j x)) → halvings (s .threshold) d n x ≡ refused 21
   unfolding halvings halvedNorm
   all-above zero n x h = refl
-  all-above (suc d) n x h = on (lt (s .threshold) x) (h 0 (omega arith)) (all-above d (suc n) (mul binary64 x half) (λ j l. later j x (h (suc j) (omega (arith, l)))))
+  all-above (suc d) n x h = on (lt (s .threshold) x) (h 0 (omega arith)) (all-above d (suc n) (mul binary64 x half)
+      (λ j l. later j x (h (suc j) (omega (arith, l)))))
     where
-      on : (b : Bool) → T b → halvings (s .threshold) d (suc n) (mul binary64 x half) ≡ refused 21 → _≡_ {A = Result ℕ} (elim b [ false ↦ done n | true ↦ halvings (s .threshold) d (suc n) (mul binary64 x half) ]) (refused 21)
+      on : (b : Bool) → T b → halvings (s .threshold) d (suc n) (mul binary64 x half) ≡ refused 21
+          → _≡_ {A = Result ℕ} (elim b [ false ↦ done n | true ↦ halvings (s .threshold) d (suc n) (mul binary64 x half) ]) (refused 21)
       on true t e = e
       on false t e = absurd t
 
@@ -88,14 +95,21 @@ module _ (s : Scheme) where
       none c l = omega arith
   first-not (suc d) n x zero l h f = on (lt (s .threshold) x) f
     where
-      on : (b : Bool) → T (not b) → _≡_ {A = Result ℕ} (elim b [ false ↦ done n | true ↦ halvings (s .threshold) d (suc n) (mul binary64 x half) ]) (done (n + 0))
+      on : (b : Bool) → T (not b) → _≡_ {A = Result ℕ} (elim b [
+        | false ↦ done n
+        | true ↦ halvings (s .threshold) d (suc n)
+            (mul binary64 x half)
+      ]) (done (n + 0))
       on true t = absurd t
       on false t = ap done (omega arith)
   first-not (suc d) n x (suc c) l h f =
       on (lt (s .threshold) x) (h 0 (omega arith))
-      (first-not d (suc n) (mul binary64 x half) c (omega (arith, l)) (λ j m. later j x (h (suc j) (omega (arith, m)))) (later-not c x f) ∙ ap done (omega arith))
+      (first-not d (suc n) (mul binary64 x half) c (omega (arith, l)) (λ j m. later j x (h (suc j) (omega (arith, m)))) (later-not c x f)
+      ∙ ap done (omega arith))
     where
-      on : (b : Bool) → T b → halvings (s .threshold) d (suc n) (mul binary64 x half) ≡ done (n + suc c) → _≡_ {A = Result ℕ} (elim b [ false ↦ done n | true ↦ halvings (s .threshold) d (suc n) (mul binary64 x half) ]) (done (n + suc c))
+      on : (b : Bool) → T b → halvings (s .threshold) d (suc n) (mul binary64 x half) ≡ done (n + suc c)
+          → _≡_ {A = Result ℕ} (elim b [ false ↦ done n | true ↦ halvings (s .threshold) d (suc n) (mul binary64 x half) ])
+          (done (n + suc c))
       on true t e = e
       on false t e = absurd t
 
@@ -110,7 +124,8 @@ module _ (s : Scheme) where
       none c l = omega arith
   which (suc d) x = on (which d x)
     where
-      last : (b : Bool) → (T b → T (above s d x)) → (T (not b) → T (not (above s d x))) → ((j : ℕ) → j < d → T (above s j x)) → ((j : ℕ) → j < suc d → T (above s j x)) ⊎ First (suc d) x
+      last : (b : Bool) → (T b → T (above s d x)) → (T (not b) → T (not (above s d x))) → ((j : ℕ) → j < d → T (above s j x))
+          → ((j : ℕ) → j < suc d → T (above s j x)) ⊎ First (suc d) x
       last true f g h = inl (λ j l. ⊎-elim (λ e. subst (λ (i : ℕ). T (above s i x)) (sym e) (f tt)) (h j) (eq-or-lt-of-le (le-of-suc-le-suc l)))
       last false f g h = inr (d, lt-suc-self d, h, g tt)
 
@@ -140,13 +155,15 @@ module _ (s : Scheme) (n : ℕ) (k a r : List Float) (d : Float) (lasts : T (not
 
   -- behind the test of the duration
   abbrev behind : Result ℕ → Result (List Float)
-  behind q = andThen (andThen q (λ c. unless (allFinite (n + n) (powers c)) 22 (record { halved = c; matrix = powers c }))) (λ (e : Exponential). applied n (e .matrix) a r d)
+  behind q =
+      andThen (andThen q (λ c. unless (allFinite (n + n) (powers c)) 22 (record { halved = c; matrix = powers c })))
+      (λ (e : Exponential). propagated n (e .matrix) a r d)
 
-  goes : (q : Result ℕ) → countOf (s .threshold) (s .most) x ≡ q → interval s n k a r d ≡ behind q
+  goes : (q : Result ℕ) → halvingCount (s .threshold) (s .most) x ≡ q → interval s n k a r d ≡ behind q
   unfolding interval propagator exponential
   goes q e = on (eq d plusZero) lasts ∙ ap behind e
     where
-      on : (b : Bool) → T (not b) → over b a (behind (countOf (s .threshold) (s .most) x)) ≡ behind (countOf (s .threshold) (s .most) x)
+      on : (b : Bool) → T (not b) → over b a (behind (halvingCount (s .threshold) (s .most) x)) ≡ behind (halvingCount (s .threshold) (s .most) x)
       on true t = absurd t
       on false t = refl
 
@@ -155,7 +172,7 @@ module _ (s : Scheme) (n : ℕ) (k a r : List Float) (d : Float) (lasts : T (not
   counts false t = absurd t
 
   at-20 : T (not (finite x)) → interval s n k a r d ≡ refused 20
-  unfolding countOf
+  unfolding halvingCount
   at-20 h = goes (refused 20) (on (finite x) h)
     where
       on : (b : Bool) → T (not b) → andThen (unless b 20 x) (halvings (s .threshold) (suc (s .most)) 0) ≡ refused 20
@@ -163,14 +180,18 @@ module _ (s : Scheme) (n : ℕ) (k a r : List Float) (d : Float) (lasts : T (not
       on false t = refl
 
   at-21 : T (finite x) → ((j : ℕ) → j ≤ s .most → T (above s j x)) → interval s n k a r d ≡ refused 21
-  unfolding countOf
+  unfolding halvingCount
   at-21 f h = goes (refused 21) (counts (finite x) f ∙ all-above s (suc (s .most)) 0 x (λ j l. h j (le-of-suc-le-suc l)))
 
-  at-22 : (c : ℕ) → T (finite x) → Takes s x c → interval s n k a r d ≡ unless (resultsPass n (powers c) a r d) 22 (results c)
-  unfolding countOf applied
-  at-22 c f t = goes (done c) (counts (finite x) f ∙ first-not s (suc (s .most)) 0 x c (omega (arith, t .most)) (t .before) (t .after) ∙ ap done (zero-add c)) ∙ on (allFinite (n + n) (powers c)) (allTo (λ j. finite (mul binary64 (cell r j) d)) n)
+  at-22 : (c : ℕ) → T (finite x) → TakesHalvings s x c → interval s n k a r d ≡ unless (resultsPass n (powers c) a r d) 22 (results c)
+  unfolding halvingCount propagated
+  at-22 c f t =
+      goes (done c) (counts (finite x) f ∙ first-not s (suc (s .most)) 0 x c (omega (arith, t .most)) (t .before) (t .after)
+      ∙ ap done (zero-add c)) ∙ on (allFinite (n + n) (powers c)) (allTo (λ j. finite (mul binary64 (cell r j) d)) n)
     where
-      on : (b i : Bool) → andThen (unless b 22 (record { halved = c; matrix = powers c })) (λ (e : Exponential). andThen (unless i 22 (tabulate n (λ i. amountTo (e .matrix) n a r d i n))) (λ y. unless (all nonnegative y) 22 y)) ≡ unless (b && (i && all nonnegative (results c))) 22 (results c)
+      on : (b i : Bool) → andThen (unless b 22 (record { halved = c; matrix = powers c }))
+          (λ (e : Exponential). andThen (unless i 22 (tabulate n (λ i. amountTo (e .matrix) n a r d i n)))
+          (λ y. unless (all nonnegative y) 22 y)) ≡ unless (b && (i && all nonnegative (results c))) 22 (results c)
       on true true = refl
       on true false = refl
       on false i = refl
@@ -181,14 +202,15 @@ module _ (s : Scheme) (n : ℕ) (k a r : List Float) (d : Float) (lasts : T (not
       is : {m : ℕ} → interval s n k a r d ≡ refused m → Refusal s n k a r d m → Refusal s n k a r d c
       is q = subst (Refusal s n k a r d) (same-number (sym q ∙ e))
 
-      last : (m : ℕ) → T (finite x) → Takes s x m → (b : Bool) → (T (not b) → T (not (resultsPass n (powers m) a r d))) → interval s n k a r d ≡ unless b 22 (results m) → Refusal s n k a r d c
+      last : (m : ℕ) → T (finite x) → TakesHalvings s x m → (b : Bool) → (T (not b) → T (not (resultsPass n (powers m) a r d)))
+          → interval s n k a r d ≡ unless b 22 (results m) → Refusal s n k a r d c
       last m f t true g q = absurd (apart (sym q ∙ e))
       last m f t false g q = is q (results-fail f t (g tt))
 
       finitely : T (finite x) → ((j : ℕ) → j < suc (s .most) → T (above s j x)) ⊎ First s (suc (s .most)) x → Refusal s n k a r d c
       finitely f (inl h) = is (at-21 f (λ j l. h j (omega (arith, l)))) (halvings-fail f (λ j l. h j (omega (arith, l))))
       finitely f (inr (m, l, h, g)) =
-          let t : Takes s x m = record { most = le-of-suc-le-suc l; before = h; after = g } in
+          let t : TakesHalvings s x m = record { most = le-of-suc-le-suc l; before = h; after = g } in
           last m f t (resultsPass n (powers m) a r d) (λ z. z) (at-22 m f t)
 
       on : (b : Bool) → (T b → T (finite x)) → (T (not b) → T (not (finite x))) → Refusal s n k a r d c
@@ -220,7 +242,8 @@ interval-number : (s : Scheme) (n : ℕ) (k a r : List Float) (d : Float) (c : �
 unfolding interval
 interval-number s n k a r d c e = on (eq d plusZero) (λ t. t) e
   where
-    on : (b : Bool) → (T (not b) → T (not (eq d plusZero))) → over b a (andThen (propagator s n k d) (λ e. applied n (e .matrix) a r d)) ≡ refused c → T (oneOf c arithmetic)
+    on : (b : Bool) → (T (not b) → T (not (eq d plusZero)))
+        → over b a (andThen (propagator s n k d) (λ e. propagated n (e .matrix) a r d)) ≡ refused c → T (oneOf c arithmetic)
     on true f q = absurd (apart q)
     on false f q = refusal-number (every-interval s n k a r d (f tt) c .0 e)
 
@@ -228,23 +251,23 @@ interval-number s n k a r d c e = on (eq d plusZero) (λ t. t) e
 module _ (k : LinearPk) (h : sound k ≡ done k) (x r : List Float) (d : Float) where
   -- `advance`, of a sound kernel into a slice with room
   abbrev body : Bool → Result (List Float)
-  body b = andThen (unless b 3 x) (λ _. interval scheme (stateCount k) (k .rates) x r d)
+  body b = andThen (unless b 3 x) (λ _. interval scheme (stateCount k) (k .matrix) x r d)
 
   is-body : propagatorOf k x r d ≡ body (argumentsPass (stateCount k) x r d)
   unfolding advance
   is-body = rw (h, le-leb (stateCount k) (stateCount k) (le-refl (stateCount k))) (on (argumentsPass (stateCount k) x r d))
     where
-      on : (b : Bool) → andThen (unless b 3 x) (λ _. andThen (unless true 4 x) (λ _. interval scheme (stateCount k) (k .rates) x r d)) ≡ body b
+      on : (b : Bool) → andThen (unless b 3 x) (λ _. andThen (unless true 4 x) (λ _. interval scheme (stateCount k) (k .matrix) x r d)) ≡ body b
       on true = refl
       on false = refl
 
   three-body : (b : Bool) → (body b ≡ refused 3) ↔ T (not b)
   three-body false = ((λ e. tt), λ t. refl)
-  three-body true = ((λ e. absurd (interval-number scheme (stateCount k) (k .rates) x r d 3 e)), λ t. absurd t)
+  three-body true = ((λ e. absurd (interval-number scheme (stateCount k) (k .matrix) x r d 3 e)), λ t. absurd t)
 
   numbers-body : (c : ℕ) (b : Bool) → body b ≡ refused c → T (oneOf c (3 ∷ arithmetic))
   numbers-body c false e = subst (λ (j : ℕ). T (oneOf j (3 ∷ arithmetic))) (same-number e) tt
-  numbers-body c true e = wide (eqb c 3) (oneOf c arithmetic) (interval-number scheme (stateCount k) (k .rates) x r d c e)
+  numbers-body c true e = wide (eqb c 3) (oneOf c arithmetic) (interval-number scheme (stateCount k) (k .matrix) x r d c e)
     where
       wide : (a b : Bool) → T b → T (a || b)
       wide true b t = tt
@@ -252,14 +275,14 @@ module _ (k : LinearPk) (h : sound k ≡ done k) (x r : List Float) (d : Float) 
 
   amounts-body : (v : List Float) (b : Bool) → (T b → T (amountsPass (stateCount k) x)) → body b ≡ done v → T (amountsPass (stateCount k) v)
   amounts-body v false p e = absurd (apart (sym e))
-  amounts-body v true p e = on (interval scheme (stateCount k) (k .rates) x r d) (kept-interval scheme (stateCount k) (k .rates) x r d (p tt)) e
+  amounts-body v true p e = on (interval scheme (stateCount k) (k .matrix) x r d) (kept-interval scheme (stateCount k) (k .matrix) x r d (p tt)) e
     where
       on : (w : Result (List Float)) → Kept (stateCount k) w → w ≡ done v → T (amountsPass (stateCount k) v)
       on (refused j) g e = absurd (apart (sym e))
       on (done a) g e = subst (λ (l : List Float). T (amountsPass (stateCount k) l)) (same-amounts e) g
 
   conditions-body : (c : ℕ) (b : Bool) → T b → T (not (eq d plusZero)) → (body b ≡ refused c) ↔ refusalOf k c x r d
-  conditions-body c true p z = every-interval scheme (stateCount k) (k .rates) x r d z c
+  conditions-body c true p z = every-interval scheme (stateCount k) (k .matrix) x r d z c
   conditions-body c false p z = absurd p
 
 and-left : (a b : Bool) → T (a && b) → T a
@@ -268,10 +291,16 @@ and-left false b t = t
 
 pub kernel-laws : EveryKernel
 kernel-laws k h = record {
-  three = λ a r d. subst (λ (w : Result (List Float)). (w ≡ refused 3) ↔ T (not (argumentsPass (stateCount k) a r d))) (sym (is-body k h a r d)) (three-body k h a r d (argumentsPass (stateCount k) a r d));
+  three =
+      λ a r d. subst (λ (w : Result (List Float)). (w ≡ refused 3) ↔ T (not (argumentsPass (stateCount k) a r d))) (sym (is-body k h a r d))
+      (three-body k h a r d (argumentsPass (stateCount k) a r d));
   numbers = λ a r d c e. numbers-body k h a r d c (argumentsPass (stateCount k) a r d) (sym (is-body k h a r d) ∙ e);
-  conditions = λ a r d p z c. subst (λ (w : Result (List Float)). (w ≡ refused c) ↔ refusalOf k c a r d) (sym (is-body k h a r d)) (conditions-body k h a r d c (argumentsPass (stateCount k) a r d) p z);
-  amounts = λ a r d v e. amounts-body k h a r d v (argumentsPass (stateCount k) a r d) (and-left (amountsPass (stateCount k) a) _) (sym (is-body k h a r d) ∙ e);
+  conditions =
+      λ a r d p z c. subst (λ (w : Result (List Float)). (w ≡ refused c) ↔ refusalOf k c a r d) (sym (is-body k h a r d))
+      (conditions-body k h a r d c (argumentsPass (stateCount k) a r d) p z);
+  amounts =
+      λ a r d v e. amounts-body k h a r d v (argumentsPass (stateCount k) a r d) (and-left (amountsPass (stateCount k) a) _)
+      (sym (is-body k h a r d) ∙ e);
 }
 
 pub kernel-run : EveryKernelRun

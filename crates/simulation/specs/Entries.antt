@@ -5,11 +5,12 @@ use Prim.Native.Nat.{ℕ}
 use lib.Dec.{leb}
 use lib.ListN.{take}
 use lib.Ieee.{Float}
+use Rattle.limits.specs.Limits.{mostEvents}
 use Rattle.refusal.specs.Result.{Result, refused}
 use Rattle.linear_pk.specs.LinearPk.{sound, stateCount}
 use Rattle.linear_pk.specs.declared.kernel.LinearPk.{LinearPk}
 use Rattle.protocol.specs.Execute.{Outcome}
-use Rattle.protocol.specs.Entry.{mostEvents, Room, simulate}
+use Rattle.protocol.specs.Entry.{Room, simulate}
 use Rattle.protocol.specs.declared.Event.{Event}
 use Rattle.protocol.specs.declared.Window.{Window}
 use Rattle.preparation.specs.Preparation.{ownNumber}

@@ -1,4 +1,5 @@
--- Demand 3's claim about a plain run, at the kernel and 01's scheme: for every kernel that passes its own test. Ahead of it the conditions of 20, 21 and 22, over every scheme.
+-- Demand 3's claim about a plain run, at the kernel and 01's scheme: for every kernel that passes its own test. Ahead of it the conditions
+-- of 20, 21 and 22, over every scheme.
 use mathlib.Core.Path.{_≡_}
 use mathlib.Core.Bool.{Bool, not, _&&_}
 use mathlib.Core.List.{List}
@@ -38,7 +39,7 @@ abbrev pub above : Scheme → ℕ → Float → Bool
 above s j x = lt (s .threshold) (halvedNorm j x)
 
 -- the norm x takes c halvings: it is above the threshold after each number below c, and after c it is not
-pub record Takes (s : Scheme) (x : Float) (c : ℕ) : Type 0 where
+pub record TakesHalvings (s : Scheme) (x : Float) (c : ℕ) : Type 0 where
   pub most : c ≤ s .most
   pub before : (j : ℕ) → j < c → T (above s j x)
   pub after : T (not (above s c x))
@@ -55,11 +56,14 @@ pub data Refusal (s : Scheme) (n : ℕ) (k a r : List Float) (d : Float) : ℕ �
   -- it is finite, and above the threshold after each of 0 .. most halvings
   halvings-fail : T (finite (normOf n k d)) → ((j : ℕ) → j ≤ s .most → T (above s j (normOf n k d))) → Refusal s n k a r d 21
   -- neither holds, so that it takes c halvings, and a result does not pass
-  results-fail : {c : ℕ} → T (finite (normOf n k d)) → Takes s (normOf n k d) c → T (not (resultsPass n (taylor s (n + n) c (blockOf n k d)) a r d)) → Refusal s n k a r d 22
+  results-fail : {c : ℕ} → T (finite (normOf n k d)) → TakesHalvings s (normOf n k d) c
+      → T (not (resultsPass n (taylor s (n + n) c (blockOf n k d)) a r d)) → Refusal s n k a r d 22
 
 -- a duration that is not 0 is refused exactly so
 abbrev pub EveryInterval : Type 0
-EveryInterval = (s : Scheme) (n : ℕ) (k a r : List Float) (d : Float) → T (not (eq d plusZero)) → (c : ℕ) → (interval s n k a r d ≡ refused c) ↔ Refusal s n k a r d c
+EveryInterval =
+    (s : Scheme) (n : ℕ) (k a r : List Float) (d : Float) → T (not (eq d plusZero)) → (c : ℕ) → (interval s n k a r d ≡ refused c)
+    ↔ Refusal s n k a r d c
 
 -- ---- the kernel
 -- its advance, into a slice of its own length
@@ -68,7 +72,7 @@ propagatorOf k a r d = advance scheme k a r d (stateCount k)
 
 -- and when that refuses
 abbrev pub refusalOf : LinearPk → Conditions
-refusalOf k c a r d = Refusal scheme (stateCount k) (k .rates) a r d c
+refusalOf k c a r d = Refusal scheme (stateCount k) (k .matrix) a r d c
 
 -- what a run asks of its kernel
 abbrev pub EveryKernel : Type 0

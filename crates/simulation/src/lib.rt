@@ -1,8 +1,11 @@
 // `simulate`: the tests ahead of a run, the run, and what it leaves in the three lent slices.
-use events::EVENTS;
+use events::Reals;
+use events::Words;
+use limits::BOUNDARIES;
+use limits::EVENTS;
+use limits::SAMPLES;
+use limits::STATES;
 use linear_pk::LinearPk;
-use matrix::STATES;
-use preparation::SAMPLES;
 use protocol::Event;
 use protocol::Window;
 use refusal::Refusal;
@@ -13,27 +16,26 @@ ghost use mathlib.Core.List.{[]};
 ghost use mathlib.Core.Option.{none};
 ghost use Prim.Native.Nat.{_≤_, _*_};
 ghost use lib.ListN.{length, take};
+ghost use Rattle.limits.specs.Limits.{states};
 ghost use Rattle.binary64.specs.Doubles.{plusZero};
 ghost use Rattle.refusal.specs.Result.{done};
 ghost use Rattle.linear_pk.specs.LinearPk.{stateCount, sound};
 ghost use Rattle.events.specs.Packed.{packed};
 ghost use Rattle.protocol.specs.Prepare.{reckoned};
 ghost use Rattle.protocol.specs.Execute.{runOf};
-ghost use Rattle.protocol.specs.Entry.{ahead, replyOf, laid, timesAtExit, sidesAtExit, valuesAtExit};
-ghost use Rattle.rows.specs.Written.{cells, Room};
+ghost use Rattle.protocol.specs.Entry.{firstRefusal, reportOf, frontThenZeros, timesAtExit, sidesAtExit, valuesAtExit};
+ghost use Rattle.rows.specs.Written.{cells, RoomForRows};
 ghost use Rattle.preparation.specs.Preparation.{ownNumber};
 ghost use Rattle.simulation_report.specs.Replies.{room, runReply};
 ghost use Rattle.simulation.specs.KernelRun.{propagatorOf};
 ghost use Rattle.simulation.specs.Entries.{simulateEntry};
 
-// The most boundaries: start, end, two for each event.
-const BOUNDARIES: usize = 386;
-
 // Zeros over the reckoned rows, of n amounts each.
 fn clear(times: &mut [f64], sides: &mut [u8], values: &mut [f64], rows: usize, n: usize)
-    requires { ⌜ (n ≤ 4) × Room n rows (cells (now times) (now sides) (now values)) ⌝ }
-    ensures { λ _. ⌜ (now (times .exit) ≡ laid plusZero rows [] (now (times .entry))) × (now (sides .exit) ≡ laid 0 rows [] (now (sides .entry)))
-        × (now (values .exit) ≡ laid plusZero (rows * n) [] (now (values .entry))) ⌝ }
+    requires { ⌜ (n ≤ states) × RoomForRows n rows (cells (now times) (now sides) (now values)) ⌝ }
+    ensures { λ _. ⌜ (now (times .exit) ≡ frontThenZeros plusZero rows [] (now (times .entry)))
+        × (now (sides .exit) ≡ frontThenZeros 0 rows [] (now (sides .entry)))
+        × (now (values .exit) ≡ frontThenZeros plusZero (rows * n) [] (now (values .entry))) ⌝ }
 {
     rows::clear_reals(times, rows);
     rows::clear_sides(sides, rows);
@@ -45,23 +47,29 @@ pub fn run_prepared(
     kernel: LinearPk,
     initial: [f64; STATES],
     window: Window,
-    reals: &[[f64; 3]; EVENTS],
-    words: &[[usize; 4]; EVENTS],
+    reals: &Reals,
+    words: &Words,
     count: usize,
     samples: &[f64],
     times: &mut [f64],
     sides: &mut [u8],
     values: &mut [f64],
 ) -> RunReply
-    requires { ⌜ ahead (ownNumber (sound kernel)) (stateCount kernel) window (now samples) (packed (now reals) (now words) count) (take (stateCount kernel) initial)
+    requires { ⌜ firstRefusal (ownNumber (sound kernel)) (stateCount kernel) window (now samples) (packed (now reals) (now words) count)
+        (take (stateCount kernel) initial)
         (room (length (now times)) (length (now sides)) (length (now values))) ≡ none ⌝ }
-    ensures { λ r. ⌜ runReply r ≡ replyOf (done (runOf (propagatorOf kernel) (stateCount kernel) window (now (samples .entry)) (packed (now (reals .entry)) (now (words .entry)) count) (take (stateCount kernel) initial))) ⌝ }
+    ensures { λ r. ⌜ runReply r ≡ reportOf (done (runOf (propagatorOf kernel) (stateCount kernel) window (now (samples .entry))
+        (packed (now (reals .entry)) (now (words .entry)) count) (take (stateCount kernel) initial))) ⌝ }
     ensures { λ r. ⌜ now (times .exit) ≡ timesAtExit (reckoned (now (samples .entry)) (packed (now (reals .entry)) (now (words .entry)) count))
-        (done (runOf (propagatorOf kernel) (stateCount kernel) window (now (samples .entry)) (packed (now (reals .entry)) (now (words .entry)) count) (take (stateCount kernel) initial))) (now (times .entry)) ⌝ }
+        (done (runOf (propagatorOf kernel) (stateCount kernel) window (now (samples .entry))
+        (packed (now (reals .entry)) (now (words .entry)) count) (take (stateCount kernel) initial))) (now (times .entry)) ⌝ }
     ensures { λ r. ⌜ now (sides .exit) ≡ sidesAtExit (reckoned (now (samples .entry)) (packed (now (reals .entry)) (now (words .entry)) count))
-        (done (runOf (propagatorOf kernel) (stateCount kernel) window (now (samples .entry)) (packed (now (reals .entry)) (now (words .entry)) count) (take (stateCount kernel) initial))) (now (sides .entry)) ⌝ }
-    ensures { λ r. ⌜ now (values .exit) ≡ valuesAtExit (reckoned (now (samples .entry)) (packed (now (reals .entry)) (now (words .entry)) count)) (stateCount kernel)
-        (done (runOf (propagatorOf kernel) (stateCount kernel) window (now (samples .entry)) (packed (now (reals .entry)) (now (words .entry)) count) (take (stateCount kernel) initial))) (now (values .entry)) ⌝ }
+        (done (runOf (propagatorOf kernel) (stateCount kernel) window (now (samples .entry))
+        (packed (now (reals .entry)) (now (words .entry)) count) (take (stateCount kernel) initial))) (now (sides .entry)) ⌝ }
+    ensures { λ r. ⌜ now (values .exit) ≡ valuesAtExit (reckoned (now (samples .entry))
+        (packed (now (reals .entry)) (now (words .entry)) count)) (stateCount kernel)
+        (done (runOf (propagatorOf kernel) (stateCount kernel) window (now (samples .entry))
+        (packed (now (reals .entry)) (now (words .entry)) count) (take (stateCount kernel) initial))) (now (values .entry)) ⌝ }
 {
     let n = kernel.state_count();
     let rows = 4 * count + samples.len() + 2;
@@ -112,13 +120,16 @@ pub fn simulate(
     sides: &mut [u8],
     values: &mut [f64],
 ) -> RunReply
-    ensures { λ r. ⌜ runReply r ≡ replyOf (simulateEntry kernel (now (amounts .entry)) window events count (now (samples .entry))
+    ensures { λ r. ⌜ runReply r ≡ reportOf (simulateEntry kernel (now (amounts .entry)) window events count (now (samples .entry))
         (room (length (now (times .entry))) (length (now (sides .entry))) (length (now (values .entry))))) ⌝ }
-    ensures { λ r. ⌜ now (times .exit) ≡ timesAtExit (reckoned (now (samples .entry)) (take count events)) (simulateEntry kernel (now (amounts .entry)) window events count (now (samples .entry))
+    ensures { λ r. ⌜ now (times .exit) ≡ timesAtExit (reckoned (now (samples .entry)) (take count events))
+        (simulateEntry kernel (now (amounts .entry)) window events count (now (samples .entry))
         (room (length (now (times .entry))) (length (now (sides .entry))) (length (now (values .entry))))) (now (times .entry)) ⌝ }
-    ensures { λ r. ⌜ now (sides .exit) ≡ sidesAtExit (reckoned (now (samples .entry)) (take count events)) (simulateEntry kernel (now (amounts .entry)) window events count (now (samples .entry))
+    ensures { λ r. ⌜ now (sides .exit) ≡ sidesAtExit (reckoned (now (samples .entry)) (take count events))
+        (simulateEntry kernel (now (amounts .entry)) window events count (now (samples .entry))
         (room (length (now (times .entry))) (length (now (sides .entry))) (length (now (values .entry))))) (now (sides .entry)) ⌝ }
-    ensures { λ r. ⌜ now (values .exit) ≡ valuesAtExit (reckoned (now (samples .entry)) (take count events)) (stateCount kernel) (simulateEntry kernel (now (amounts .entry)) window events count (now (samples .entry))
+    ensures { λ r. ⌜ now (values .exit) ≡ valuesAtExit (reckoned (now (samples .entry)) (take count events)) (stateCount kernel)
+        (simulateEntry kernel (now (amounts .entry)) window events count (now (samples .entry))
         (room (length (now (times .entry))) (length (now (sides .entry))) (length (now (values .entry))))) (now (values .entry)) ⌝ }
 {
     if count > EVENTS {

@@ -8,11 +8,12 @@ use native.Mathlib.Omega.{arith}
 use lib.ListN.{length, getD, drop, take, replicate}
 use lib.Seq.{drop-cons}
 use lib.Ieee.{Float, nan}
+use Rattle.limits.specs.Limits.{mostEvents}
 use Rattle.protocol.specs.Schedule.{Step, summed, marked, atBoundary, onInterval, following, fromFirst}
 use Rattle.protocol.specs.Execute.{Propagator}
 use Rattle.protocol.specs.declared.Event.{Event}
 use Rattle.rows.specs.Written.{Cells}
-use Rattle.rows.specs.Told.{isRefused, Ran, Fits}
+use Rattle.rows.specs.Standing.{isRefused, Ran, Fits}
 use Rattle.rows.specs.declared.Progress.{Progress}
 use Rattle.rows.proofs.Parts.{ran-stops, ran-then, fits-first, fits-then}
 
@@ -29,7 +30,8 @@ module _ (advance : Propagator) (n : ℕ) (es : List Event) (ss bs : List Float)
     pub on : isRefused (p .reply) ≡ false
     pub room : Fits n p (leftOf n es ss bs ms b) c
 
-  pub going-start : {p : Progress} {ms : List Bool} → 1 ≤ length bs → ms ≡ replicate (length es) false → Ran advance n start [] old p old → isRefused (p .reply) ≡ false → Fits n p (fromFirst n es ss bs) old → Going ms p old 0
+  pub going-start : {p : Progress} {ms : List Bool} → 1 ≤ length bs → ms ≡ replicate (length es) false → Ran advance n start [] old p old
+      → isRefused (p .reply) ≡ false → Fits n p (fromFirst n es ss bs) old → Going ms p old 0
   unfolding fromFirst
   going-start {p} {ms} h m r o f = record {
     ahead = [];
@@ -77,8 +79,10 @@ module _ (advance : Propagator) (n : ℕ) (es : List Event) (ss bs : List Float)
     end-room h = subst (λ (xs : List Step). Fits n p xs c) (at-last ms b h) (g .room)
 
     -- the block at the last boundary
-    pub end-ran : {q : Progress} {d : Cells} → length bs ≤ suc b → Ran advance n p (atBoundary (getD bs b nan) es) c q d → Ran advance n start (fromFirst n es ss bs) old q d
-    end-ran {q} {d} h r = subst (λ (xs : List Step). Ran advance n start xs old q d) (ap (λ (xs : List Step). g .ahead ++ xs) (sym (at-last ms b h)) ∙ g .whole) (ran-then (g .ran) (g .on) r)
+    pub end-ran : {q : Progress} {d : Cells} → length bs ≤ suc b → Ran advance n p (atBoundary (getD bs b nan) es) c q d
+        → Ran advance n start (fromFirst n es ss bs) old q d
+    end-ran {q} {d} h r = subst (λ (xs : List Step). Ran advance n start xs old q d) (ap (λ (xs : List Step). g .ahead ++ xs)
+        (sym (at-last ms b h)) ∙ g .whole) (ran-then (g .ran) (g .on) r)
 
     module _ (h : suc b < length bs) where
       abbrev rest : List Step
@@ -101,17 +105,24 @@ module _ (advance : Propagator) (n : ℕ) (es : List Event) (ss bs : List Float)
         here-stopped s = subst (λ (xs : List Step). Ran advance n start xs old q d) whole-here (ran-stops rest so-far s)
 
         pub next-room : Fits n q (interval ms b) d
-        next-room = fits-first (interval ms b) (leftOf n es ss bs (marked (getD bs b nan) es ms) (suc b)) (fits-then (atBoundary (getD bs b nan) es) rest room-here r)
+        next-room =
+            fits-first (interval ms b) (leftOf n es ss bs (marked (getD bs b nan) es ms) (suc b))
+            (fits-then (atBoundary (getD bs b nan) es) rest room-here r)
 
         module _ {u : Progress} {e : Cells} (o : isRefused (q .reply) ≡ false) (k : Ran advance n q (interval ms b) d u e) where
           further : Ran advance n start ((g .ahead ++ atBoundary (getD bs b nan) es) ++ interval ms b) old u e
           further = ran-then so-far o k
 
-          whole-next : ((g .ahead ++ atBoundary (getD bs b nan) es) ++ interval ms b) ++ leftOf n es ss bs (marked (getD bs b nan) es ms) (suc b) ≡ fromFirst n es ss bs
-          whole-next = append-assoc (g .ahead ++ atBoundary (getD bs b nan) es) (interval ms b) (leftOf n es ss bs (marked (getD bs b nan) es ms) (suc b)) ∙ whole-here
+          whole-next : ((g .ahead ++ atBoundary (getD bs b nan) es) ++ interval ms b)
+              ++ leftOf n es ss bs (marked (getD bs b nan) es ms) (suc b) ≡ fromFirst n es ss bs
+          whole-next =
+              append-assoc (g .ahead ++ atBoundary (getD bs b nan) es) (interval ms b)
+              (leftOf n es ss bs (marked (getD bs b nan) es ms) (suc b)) ∙ whole-here
 
           pub next-stopped : isRefused (u .reply) ≡ true → Ran advance n start (fromFirst n es ss bs) old u e
-          next-stopped s = subst (λ (xs : List Step). Ran advance n start xs old u e) whole-next (ran-stops (leftOf n es ss bs (marked (getD bs b nan) es ms) (suc b)) further s)
+          next-stopped s =
+              subst (λ (xs : List Step). Ran advance n start xs old u e) whole-next (ran-stops
+              (leftOf n es ss bs (marked (getD bs b nan) es ms) (suc b)) further s)
 
           pub next-going : {ns : List Bool} → ns ≡ marked (getD bs b nan) es ms → isRefused (u .reply) ≡ false → Going ns u e (b + 1)
           next-going m s = rw (m, add-one) (record {
@@ -119,7 +130,9 @@ module _ (advance : Propagator) (n : ℕ) (es : List Event) (ss bs : List Float)
             whole = whole-next;
             ran = further;
             on = s;
-            room = fits-then (interval ms b) (leftOf n es ss bs (marked (getD bs b nan) es ms) (suc b)) (fits-then (atBoundary (getD bs b nan) es) rest room-here r) k;
+            room =
+                fits-then (interval ms b) (leftOf n es ss bs (marked (getD bs b nan) es ms) (suc b))
+                (fits-then (atBoundary (getD bs b nan) es) rest room-here r) k;
           })
 
         -- the interval as the code has it: its rates summed over the marks ns, its end at b + 1
@@ -130,7 +143,8 @@ module _ (advance : Propagator) (n : ℕ) (es : List Event) (ss bs : List Float)
           pub code-room : Fits n q (onInterval (getD bs b nan) xs (getD bs (b + 1) nan) ss) d
           code-room = subst (λ (ys : List Step). Fits n q ys d) as-code next-room
 
-          module _ {u : Progress} {e : Cells} (o : isRefused (q .reply) ≡ false) (k : Ran advance n q (onInterval (getD bs b nan) xs (getD bs (b + 1) nan) ss) d u e) where
+          module _ {u : Progress} {e : Cells} (o : isRefused (q .reply)
+              ≡ false) (k : Ran advance n q (onInterval (getD bs b nan) xs (getD bs (b + 1) nan) ss) d u e) where
             as-interval : Ran advance n q (interval ms b) d u e
             as-interval = subst (λ (ys : List Step). Ran advance n q ys d u e) (sym as-code) k
 
@@ -149,5 +163,5 @@ take-replicate (suc k) zero a h = absurd (no h)
 take-replicate (suc k) (suc m) a h = ap (_∷_ a) (take-replicate k m a (omega arith))
 
 -- no event is marked
-pub marks-none : (es : List Event) (count : ℕ) → length es ≡ count → count ≤ 192 → take count (replicate 192 false) ≡ replicate (length es) false
-marks-none es count e h = take-replicate count 192 false h ∙ ap (λ (k : ℕ). replicate k false) (sym e)
+pub marks-none : (es : List Event) (count : ℕ) → length es ≡ count → count ≤ mostEvents → take count (replicate mostEvents false) ≡ replicate (length es) false
+marks-none es count e h = take-replicate count mostEvents false h ∙ ap (λ (k : ℕ). replicate k false) (sym e)

@@ -1,21 +1,24 @@
 // The loop over boundaries of the analytic run.
-use events::EVENTS;
+use events::Reals;
+use events::Words;
+use limits::EVENTS;
 use linear_pk::LinearPk;
 use refusal::Reply;
 use rows::Progress;
 ghost use Prim.Native.Nat.{_≤_};
 ghost use lib.ListN.{length};
+ghost use Rattle.limits.specs.Limits.{mostEvents};
 ghost use Rattle.events.specs.Packed.{packed};
 ghost use Rattle.protocol.specs.Schedule.{fromFirst};
 ghost use Rattle.rows.specs.Written.{cells};
-ghost use Rattle.rows.specs.Told.{Ran, Fits, kernelAdvance};
+ghost use Rattle.rows.specs.Standing.{Ran, Fits, kernelAdvance};
 
 // From the first boundary to the last, or to the first step that refuses.
 pub fn over_boundaries(
     kernel: LinearPk,
     n: usize,
-    reals: &[[f64; 3]; EVENTS],
-    words: &[[usize; 4]; EVENTS],
+    reals: &Reals,
+    words: &Words,
     count: usize,
     bounds: &[f64],
     samples: &[f64],
@@ -24,8 +27,11 @@ pub fn over_boundaries(
     sides: &mut [u8],
     values: &mut [f64],
 ) -> Progress
-    requires { ⌜ (count ≤ 192) × (1 ≤ length (now bounds)) × Fits n start (fromFirst n (packed (now reals) (now words) count) (now samples) (now bounds)) (cells (now times) (now sides) (now values)) ⌝ }
-    ensures { λ r. ⌜ Ran (kernelAdvance kernel n) n start (fromFirst n (packed (now (reals .entry)) (now (words .entry)) count) (now (samples .entry)) (now (bounds .entry)))
+    requires { ⌜ (count ≤ mostEvents) × (1 ≤ length (now bounds))
+        × Fits n start (fromFirst n (packed (now reals) (now words) count) (now samples) (now bounds))
+        (cells (now times) (now sides) (now values)) ⌝ }
+    ensures { λ r. ⌜ Ran (kernelAdvance kernel n) n start (fromFirst n (packed (now (reals .entry)) (now (words .entry)) count)
+        (now (samples .entry)) (now (bounds .entry)))
         (cells (now (times .entry)) (now (sides .entry)) (now (values .entry))) r (cells (now (times .exit)) (now (sides .exit)) (now (values .exit))) ⌝ }
 {
     let last = bounds.len() - 1;

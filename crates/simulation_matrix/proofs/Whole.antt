@@ -10,8 +10,9 @@ use lib.Dec.{T}
 use lib.ListN.{length, take}
 use lib.Seq.{take-at}
 use lib.Ieee.{Float, binary64, fits, eq}
+use Rattle.limits.specs.Limits.{states, mostEvents, mostSamples, mostBoundaries}
 use Rattle.binary64.specs.Doubles.{totalLe}
-use Rattle.binary64.specs.Lists.{all, gather}
+use Rattle.binary64.specs.Lists.{all, flatMap}
 use Rattle.binary64.specs.Sort.{insertBy, sortBy, firstsFrom, firsts}
 use Rattle.protocol.specs.declared.Event.{Event}
 use Rattle.protocol.specs.declared.Event.the-variants.{Bolus, Infusion, Reset}
@@ -22,23 +23,24 @@ use Rattle.protocol.specs.PlainRun.{Prepared}
 use Rattle.protocol.specs.Schedule.{schedule}
 use Rattle.protocol.proofs.ListLaws.{both, and-T}
 use Rattle.protocol.proofs.RowCounts.{schedule-within, instants-most, length-sortedUnique}
-use Rattle.rows.specs.Written.{Cells, Room}
-use Rattle.rows.specs.Told.{Fits}
+use Rattle.rows.specs.Written.{Cells, RoomForRows}
+use Rattle.rows.specs.Standing.{Fits}
 use Rattle.rows.proofs.Lengths.{most, schedule-most}
 use Rattle.rows.proofs.Puts.{room-less}
 use Rattle.simulation_matrix.specs.Started.{started}
 
 -- ---- the times are doubles
-times-of : (es : List Event) → T (all (fits binary64) (gather instants es)) → T (all (λ (e : Event). fits binary64 (time e)) es)
+times-of : (es : List Event) → T (all (fits binary64) (flatMap instants es)) → T (all (λ (e : Event). fits binary64 (time e)) es)
 times-of [] h = tt
 times-of (e ∷ es) h = let w = on e h in and-T (fits binary64 (time e)) (all (λ (e : Event). fits binary64 (time e)) es) (w .0) (times-of es (w .1))
   where
-    on : (e : Event) → T (all (fits binary64) (instants e ++ gather instants es)) → T (fits binary64 (time e)) × T (all (fits binary64) (gather instants es))
+    on : (e : Event) → T (all (fits binary64) (instants e ++ flatMap instants es)) → T (fits binary64 (time e)) × T (all (fits binary64) (flatMap instants es))
     on (Bolus t i a) h = both (fits binary64 t) _ h
-    on (Infusion t i a d) h = let w = both (fits binary64 t) _ h in (w .0, both (fits binary64 _) (all (fits binary64) (gather instants es)) (w .1) .1)
+    on (Infusion t i a d) h = let w = both (fits binary64 t) _ h in (w .0, both (fits binary64 _) (all (fits binary64) (flatMap instants es)) (w .1) .1)
     on (Reset t i v o c) h = both (fits binary64 t) _ h
 
-pub prepared-of : (n : ℕ) (w : Window) (ss : List Float) (es : List Event) → T (all (fits binary64) ss) → T (all (fits binary64) (boundaryTimes (w .start) (w .end) es)) → prepare n w ss es ≡ none → Prepared n w ss es
+pub prepared-of : (n : ℕ) (w : Window) (ss : List Float) (es : List Event) → T (all (fits binary64) ss)
+    → T (all (fits binary64) (boundaryTimes (w .start) (w .end) es)) → prepare n w ss es ≡ none → Prepared n w ss es
 prepared-of n w ss es s b p =
     let v = both (fits binary64 (w .start)) _ b in
     let u = both (fits binary64 (w .end)) _ (v .1) in
@@ -51,7 +53,7 @@ front xs ys e = ap (take (length xs)) e ∙ take-at xs ys (length xs) refl
 -- ---- room
 pub some-boundary : (w : Window) (es : List Event) → 1 ≤ length (boundaries w es)
 unfolding boundaries sortedUnique firsts sortBy insertBy firstsFrom
-some-boundary w es = on (sortBy totalLe (boundaryTimes (w .start) (w .end) es)) (more (w .start) (sortBy totalLe (w .end ∷ gather instants es)))
+some-boundary w es = on (sortBy totalLe (boundaryTimes (w .start) (w .end) es)) (more (w .start) (sortBy totalLe (w .end ∷ flatMap instants es)))
   where
     more : (x : Float) (ys : List Float) → 1 ≤ length (insertBy totalLe x ys)
     more x [] = le-refl 1
@@ -73,7 +75,8 @@ some-boundary w es = on (sortBy totalLe (boundaryTimes (w .start) (w .end) es)) 
     on [] h = h
     on (y ∷ ys) h = from y ys
 
-pub schedule-fits : (n : ℕ) (w : Window) (ss : List Float) (es : List Event) (a : List Float) (c : Cells) → n ≤ 4 → length es ≤ 192 → length ss ≤ 256 → Prepared n w ss es → Room n (reckoned ss es) c
+pub schedule-fits : (n : ℕ) (w : Window) (ss : List Float) (es : List Event) (a : List Float) (c : Cells) → n ≤ states
+    → length es ≤ mostEvents → length ss ≤ mostSamples → Prepared n w ss es → RoomForRows n (reckoned ss es) c
     → Fits n (started a (w .propagations)) (schedule n w ss es) c
 unfolding schedule boundaries
 schedule-fits n w ss es a c s e l p r = record {
@@ -84,8 +87,9 @@ schedule-fits n w ss es a c s e l p r = record {
       let i = instants-most es in
       let k = length-sortedUnique ss in
       let m = schedule-most n es (sortedUnique ss) (boundaries w es) in
-      let g : length (boundaries w es) ≤ 386 = omega arith in
+      let g : length (boundaries w es) ≤ mostBoundaries = omega arith in
       let h : most es (sortedUnique ss) ≤ 645 = omega arith in
-      let t : length (boundaries w es) * most es (sortedUnique ss) ≤ 386 * most es (sortedUnique ss) = mul-le-mul-right (most es (sortedUnique ss)) g in
+      let t : length (boundaries w es) * most es (sortedUnique ss) ≤ mostBoundaries * most es (sortedUnique ss) = mul-le-mul-right
+      (most es (sortedUnique ss)) g in
       omega arith;
 }

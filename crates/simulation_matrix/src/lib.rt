@@ -1,7 +1,8 @@
 // The analytic run of `simulate_matrix`: the boundaries, the distinct samples, and the run over them.
-use events::EVENTS;
+use events::Reals;
+use events::Words;
+use limits::STATES;
 use linear_pk::LinearPk;
-use matrix::STATES;
 use protocol::Window;
 use refusal::Reply;
 use rows::Progress;
@@ -11,20 +12,22 @@ ghost use Prim.Native.Nat.{_≤_};
 ghost use lib.Dec.{T};
 ghost use lib.ListN.{length, take};
 ghost use lib.Ieee.{binary64, fits};
+ghost use Rattle.limits.specs.Limits.{states, mostEvents, mostSamples, mostBoundaries};
 ghost use Rattle.binary64.specs.Lists.{all};
 ghost use Rattle.events.specs.Packed.{packed};
 ghost use Rattle.protocol.specs.Events.{sortedUnique};
 ghost use Rattle.protocol.specs.Prepare.{reckoned, prepare as prepareOf};
 ghost use Rattle.protocol.specs.PlainRun.{Prepared};
 ghost use Rattle.protocol.specs.Schedule.{schedule};
-ghost use Rattle.rows.specs.Written.{cells, Room};
-ghost use Rattle.rows.specs.Told.{Ran, kernelAdvance};
+ghost use Rattle.rows.specs.Written.{cells, RoomForRows};
+ghost use Rattle.rows.specs.Standing.{Ran, kernelAdvance};
 ghost use Rattle.simulation_matrix.specs.Started.{started};
 
 // The samples in order and each once, in readings; how many.
 fn distinct(samples: &[f64], readings: &mut [f64]) -> usize
     requires { ⌜ length (now samples) ≤ length (now readings) ⌝ }
-    ensures { λ r. ⌜ (r ≤ length (now (readings .exit))) × (take r (now (readings .exit)) ≡ sortedUnique (now (samples .entry))) × T (all (fits binary64) (now (samples .entry))) ⌝ }
+    ensures { λ r. ⌜ (r ≤ length (now (readings .exit))) × (take r (now (readings .exit)) ≡ sortedUnique (now (samples .entry)))
+        × T (all (fits binary64) (now (samples .entry))) ⌝ }
 {
     linear_pk_interval::lay(samples, readings);
     let given = samples.len();
@@ -37,8 +40,8 @@ pub fn on_schedule(
     n: usize,
     initial: [f64; STATES],
     window: Window,
-    reals: &[[f64; 3]; EVENTS],
-    words: &[[usize; 4]; EVENTS],
+    reals: &Reals,
+    words: &Words,
     count: usize,
     samples: &[f64],
     readings: &mut [f64],
@@ -47,11 +50,13 @@ pub fn on_schedule(
     sides: &mut [u8],
     values: &mut [f64],
 ) -> Progress
-    requires { ⌜ (n ≤ 4) × (count ≤ 192) × (length (now samples) ≤ 256) × (prepareOf n window (now samples) (packed (now reals) (now words) count) ≡ none)
-        × Room n (reckoned (now samples) (packed (now reals) (now words) count)) (cells (now times) (now sides) (now values))
-        × (256 ≤ length (now readings)) × (386 ≤ length (now bounds)) ⌝ }
+    requires { ⌜ (n ≤ states) × (count ≤ mostEvents) × (length (now samples) ≤ mostSamples)
+        × (prepareOf n window (now samples) (packed (now reals) (now words) count) ≡ none)
+        × RoomForRows n (reckoned (now samples) (packed (now reals) (now words) count)) (cells (now times) (now sides) (now values))
+        × (mostSamples ≤ length (now readings)) × (mostBoundaries ≤ length (now bounds)) ⌝ }
     ensures { λ r. ⌜ Prepared n window (now (samples .entry)) (packed (now (reals .entry)) (now (words .entry)) count)
-        × Ran (kernelAdvance kernel n) n (started initial (window .propagations)) (schedule n window (now (samples .entry)) (packed (now (reals .entry)) (now (words .entry)) count))
+        × Ran (kernelAdvance kernel n) n (started initial (window .propagations)) (schedule n window (now (samples .entry))
+        (packed (now (reals .entry)) (now (words .entry)) count))
         (cells (now (times .entry)) (now (sides .entry)) (now (values .entry))) r (cells (now (times .exit)) (now (sides .exit)) (now (values .exit))) ⌝ }
 {
     let read = distinct(samples, readings);

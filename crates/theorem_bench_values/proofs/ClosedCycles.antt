@@ -10,15 +10,15 @@ use Rattle.linear_pk.specs.LinearPk.{new}
 use Rattle.linear_pk_values.specs.declared.Absorption.the-variants.{Absent}
 use Rattle.protocol.specs.declared.Event.{Event}
 use Rattle.protocol.specs.declared.Event.the-variants.{Bolus}
-use Rattle.cycle.specs.Closed.{Timed, stopped, got, Solved}
+use Rattle.cycle.specs.Closed.{Timed, stopped, got, SteadyState}
 use Rattle.theorem_bench_values.specs.BenchValues.{two, single, closedBy}
 use Rattle.theorem_bench_values.proofs.Table.{opened}
 
 abbrev dosed : Float → List Event
 dosed a = Bolus plusZero 0 a ∷ []
 
-abbrev solved : List Float → List Float → Float → Timed Solved
-solved a r m = got (record { amounts = a; residuals = r; greatest = m })
+abbrev solved : List Float → List Float → Float → Timed SteadyState
+solved a r m = got (record { amounts = a; residuals = r; maximum = m })
 
 -- CL 1, V 1
 one-state : closedBy (single one) (dosed one) ≡ solved (fin false 0x9_4fc6_ceb0_99bd (negsuc 51) ∷ []) (plusZero ∷ []) plusZero
@@ -27,7 +27,8 @@ one-state = refl
 
 -- CL 1, V 1 and 2, q 1
 two-states : closedBy (new one (one ∷ two ∷ []) (one ∷ []) Absent) (dosed one)
-    ≡ solved (fin false 0x14_ed7e_462d_db35 (negsuc 52) ∷ fin false 0x1e_c7c9_f4c0_a4b5 (negsuc 51) ∷ []) (fin true 1 (negsuc 52) ∷ fin true 1 (negsuc 51) ∷ []) (fin false 0x5_78ed_8693_90cd (negsuc 103))
+    ≡ solved (fin false 0x14_ed7e_462d_db35 (negsuc 52) ∷ fin false 0x1e_c7c9_f4c0_a4b5 (negsuc 51) ∷ [])
+    (fin true 1 (negsuc 52) ∷ fin true 1 (negsuc 51) ∷ []) (fin false 0x5_78ed_8693_90cd (negsuc 103))
 unfolding opened
 two-states = refl
 

@@ -6,12 +6,12 @@ use lib.Ieee.{add, sub, mul, div, rem, neg, lt, le, eq, isNan, ofInt}
 use Rattle.binary64.specs.Doubles.{magnitude, totalLe, larger, smaller, floorOf}
 use Rattle.binary64.specs.Sort.{sortBy, firsts}
 use Rattle.matrix.specs.Matrix.{tabulate, table, sumTo, allTo, dot, product, quotient, plus, halved, identity}
-use Rattle.matrix.specs.Exponential.{rowSum, normTo, halvings, countOf, halvedTimes, nextTerm, series, squarings, taylor, allFinite, exponential}
-use Rattle.linear_pk_interval.specs.Interval.{blockCell, propagator, amountTo, applied, interval}
-use Rattle.linear_pk.specs.LinearPk.{diagonalTo, rateOf, padded, kernelOf, stateCount, ratesFinite, valuesPass, passes, new, advance}
+use Rattle.matrix.specs.Exponential.{rowSum, normTo, halvings, halvingCount, halvedTimes, nextTerm, series, squarings, taylor, allFinite, exponential}
+use Rattle.linear_pk_interval.specs.Interval.{blockCell, propagator, amountTo, propagated, interval}
+use Rattle.linear_pk.specs.LinearPk.{diagonalTo, mammillaryRate, padded, kernelOf, stateCount, matrixFinite, parametersPass, passes, new, advance}
 use Rattle.protocol.specs.Events.{target, isReset, isBolus, running, marks}
 use Rattle.protocol.specs.Prepare.{prepare}
-use Rattle.protocol.specs.Schedule.{flows, rateOf as infusionRate}
+use Rattle.protocol.specs.Schedule.{flows, infusionRate}
 use Rattle.protocol.specs.Execute.{dosed, runOf}
 use Rattle.cycle.specs.Fold.{fold}
 use Rattle.cycle.specs.Closed.{closed}
@@ -19,7 +19,10 @@ use Rattle.theorem_bench_values.specs.BenchValues.{BenchValues}
 
 -- what a computed instance opens
 unfoldable pub opened : ℕ
-unfolding add sub mul div rem neg lt le eq isNan ofInt magnitude larger smaller floorOf tabulate table sumTo allTo dot product quotient plus halved identity rowSum normTo halvings countOf halvedTimes nextTerm series squarings taylor allFinite exponential diagonalTo rateOf padded kernelOf stateCount ratesFinite valuesPass passes new blockCell propagator amountTo applied interval advance totalLe sortBy firsts zipWith target isReset isBolus running marks prepare flows infusionRate dosed runOf fold closed
+unfolding add sub mul div rem neg lt le eq isNan ofInt magnitude larger smaller floorOf tabulate table sumTo allTo dot product quotient plus
+    halved identity rowSum normTo halvings halvingCount halvedTimes nextTerm series squarings taylor allFinite exponential diagonalTo
+    mammillaryRate padded kernelOf stateCount matrixFinite parametersPass passes new blockCell propagator amountTo propagated interval
+    advance totalLe sortBy firsts zipWith target isReset isBolus running marks prepare flows infusionRate dosed runOf fold closed
 opened = 0
 
 pub bench-values : BenchValues

@@ -21,7 +21,7 @@ use Rattle.protocol.specs.declared.Event.the-variants.{Bolus, Infusion, Reset}
 use Rattle.protocol.specs.declared.Window.{Window}
 use Rattle.simulation.specs.KernelRun.{propagatorOf}
 use Rattle.cycle.specs.Fold.{period, fold}
-use Rattle.cycle.specs.Closed.{Timed, stopped, then, untimed, Solved, closed}
+use Rattle.cycle.specs.Closed.{Timed, stopped, then, untimed, SteadyState, closed}
 
 -- 2, 3, 4, 5, 6, 8, 10, 16, 20
 abbrev pub two : Float
@@ -53,7 +53,7 @@ twenty = fin false 5 (pos 2)
 
 -- the matrix of a kernel's rates
 abbrev pub matrixOf : Result LinearPk → Result Matrix
-matrixOf r = andThen r (λ k. done (table (stateCount k) (entry (k .rates))))
+matrixOf r = andThen r (λ k. done (table (stateCount k) (entry (k .matrix))))
 
 -- one volume of 1 and nothing else but a clearance
 abbrev pub single : Float → Result LinearPk
@@ -65,7 +65,7 @@ after duration = andThen (single plusZero) (λ k. advance scheme k (three ∷ []
 
 -- how many halvings a duration of 1 takes
 abbrev pub halvings : Float → Result ℕ
-halvings clearance = andThen (single clearance) (λ k. andThen (propagator scheme (stateCount k) (k .rates) one) (λ e. done (e .halved)))
+halvings clearance = andThen (single clearance) (λ k. andThen (propagator scheme (stateCount k) (k .matrix) one) (λ e. done (e .halved)))
 
 -- with tolerances 1 and budgets 100
 abbrev pub window : Float → Float → Window
@@ -89,7 +89,7 @@ ending (go s) = done (s .amounts)
 ending (stop c t s) = refused c
 
 -- the closed cycle of 0 to 1 of a kernel, with tolerances 1
-abbrev pub closedBy : Result LinearPk → List Event → Timed Solved
+abbrev pub closedBy : Result LinearPk → List Event → Timed SteadyState
 closedBy r es = then (untimed r) (λ k. closed (propagatorOf k) (stateCount k) (window plusZero one) [] es (record { absolute = one; relative = one }) true)
 
 pub record BenchValues : Type 0 where

@@ -32,7 +32,8 @@ front-fits : (k : ℕ) (es : List Event) (us : List Val) → shadow (each Event 
 front-fits zero es us p = tt
 front-fits (suc k) [] us p = tt
 front-fits (suc k) (e ∷ es) [] p = absurd p
-front-fits (suc k) (e ∷ es) (u ∷ us) p = and-T (fits binary64 (time e)) (all (λ (e : Event). fits binary64 (time e)) (take k es)) (time-fits e (u ∷ []) (p .0)) (front-fits k es us (p .1))
+front-fits (suc k) (e ∷ es) (u ∷ us) p = and-T (fits binary64 (time e)) (all (λ (e : Event). fits binary64 (time e)) (take k es))
+    (time-fits e (u ∷ []) (p .0)) (front-fits k es us (p .1))
 
 -- the first k of an array of n events
 pub times-fit : (n k : ℕ) (es : List Event) (vs : List Val) → Is (Array owned n) es vs → T (all (λ (e : Event). fits binary64 (time e)) (take k es))

@@ -8,7 +8,7 @@ use borrow.Author.Tests.{leb-false}
 use lib.Dec.{leb, eqb}
 use lib.ListN.{length, take, drop, length-append}
 use lib.Seq.{take-append-seam, drop-append-seam}
-use Rattle.cycle.specs.Closed.{Timed, stopped, got, Solved}
+use Rattle.cycle.specs.Closed.{Timed, stopped, got, SteadyState}
 use Rattle.printout.specs.Cells.{printed, printedLength}
 use Rattle.printout.specs.Printouts.{Printout, numberInto}
 use Rattle.printout.proofs.Replies.{refusal-some}
@@ -20,12 +20,13 @@ use Rattle.theorem_runs_and_cycles.specs.Printed.{Printed}
 use Rattle.theorem_runs_and_cycles.proofs.RunsAndCycles.{runs-and-cycles}
 use Rattle.theorem_calls.specs.Shown.{Shown}
 
-text-some : (o : Timed Solved) → 0 < length (steadyText o)
+text-some : (o : Timed SteadyState) → 0 < length (steadyText o)
 unfolding steadyText solvedText
 text-some (stopped m t) = refusal-some m t
-text-some (got x) = omega (arith, length-append (stateLines (x .amounts) (x .residuals)) (maxLine (x .greatest)), max-length (x .greatest))
+text-some (got x) = omega (arith, length-append (stateLines (x .amounts) (x .residuals)) (maxLine (x .maximum)), max-length (x .maximum))
 
-pub shown : (bs old : List ℕ) (number size : ℕ) (new : List ℕ) → number ≡ numberInto old (steadyPrintoutOfBytes bs) → size ≡ printedLength (steadyPrintoutOfBytes bs .text) old
+pub shown : (bs old : List ℕ) (number size : ℕ) (new : List ℕ) → number ≡ numberInto old (steadyPrintoutOfBytes bs)
+    → size ≡ printedLength (steadyPrintoutOfBytes bs .text) old
     → new ≡ printed (steadyPrintoutOfBytes bs .text) old → Shown bs old number size new
 shown bs old number size new told counted cells = on (leb (length text) (length old)) refl
   where
@@ -50,7 +51,9 @@ shown bs old number size new told counted cells = on (leb (length text) (length 
         let w : new ≡ text ++ drop (length text) old = rw e at cells in
         record {
           room = λ _. rw q (text-some (steadyOfBytes bs));
-          printed = λ _. subst (Printed bs) (ap₂ (λ (i : ℕ) (t : List ℕ). record { number = i; text = t }) (sym m) (sym (ap₂ take q w ∙ take-append-seam text (drop (length text) old)))) (runs-and-cycles .printout bs);
+          printed =
+              λ _. subst (Printed bs) (ap₂ (λ (i : ℕ) (t : List ℕ). record { number = i; text = t }) (sym m)
+              (sym (ap₂ take q w ∙ take-append-seam text (drop (length text) old)))) (runs-and-cycles .printout bs);
           behind = rw (q, w) (drop-append-seam text (drop (length text) old));
         }
     on false e =

@@ -26,5 +26,6 @@ pub record Steady (c : P.Call) (r : SteadyReply) (exit : P.Slices) : Type 0 wher
   pub unchanged : 0 < steadyReply r .number → P.AtRefusal c r exit (steadyReply r .number) (steadyReply r .time)
 
 -- the window from start to end
-abbrev pub windowOf : Float → Float → Settings → Window
-windowOf start end s = record { start = start; end = end; rtol = s .rtol; atol = s .atol; propagations = s .propagations; events = s .events; outputs = s .outputs }
+abbrev pub windowBetween : Float → Float → Settings → Window
+windowBetween start end s =
+    record { start = start; end = end; rtol = s .rtol; atol = s .atol; propagations = s .propagations; events = s .events; outputs = s .outputs }

@@ -1,6 +1,7 @@
-// Demand 3 stated of the code: what a call of the library's entries, or of the entry that `rig-steady` calls, ensures is the claim. That the times of a call are doubles is given by their type.
+// Demand 3 stated of the code: what a call of the library's entries, or of the entry that `rig-steady` calls, ensures is the claim. That
+// the times of a call are doubles is given by their type.
 use cycle::SteadyStateTolerance;
-use events::EVENTS;
+use limits::EVENTS;
 use linear_pk::LinearPk;
 use periodic_acceptance::SteadyReply;
 use printout::PrintReply;
@@ -10,7 +11,7 @@ use simulation_report::RunReply;
 ghost use mathlib.Core.Path.{_≡_};
 ghost use Rattle.simulation_report.specs.Replies.{runReply};
 ghost use Rattle.theorem_runs_and_cycles.specs.Simulate.{SameRows};
-ghost use Rattle.theorem_calls.specs.Claims.{Simulated, Steady, windowOf};
+ghost use Rattle.theorem_calls.specs.Claims.{Simulated, Steady, windowBetween};
 ghost use Rattle.refusal.specs.Numbers.{replyNumber};
 ghost use Rattle.theorem_calls.specs.Shown.{Shown};
 
@@ -61,7 +62,7 @@ struct Settings {
 }
 
 fn window_of(start: f64, end: f64, settings: Settings) -> Window
-    ensures { λ r. ⌜ r ≡ windowOf start end settings ⌝ }
+    ensures { λ r. ⌜ r ≡ windowBetween start end settings ⌝ }
 {
     Window {
         start,
@@ -102,7 +103,7 @@ fn simulate_twice(
         (record {
           kernel = kernel;
           amounts = now (amounts .entry);
-          window = windowOf start end settings;
+          window = windowBetween start end settings;
           events = events;
           count = count;
           samples = now (samples .entry);
@@ -111,7 +112,7 @@ fn simulate_twice(
         (record {
           kernel = kernel;
           amounts = now (amounts .entry);
-          window = windowOf start end «other_settings»;
+          window = windowBetween start end «other_settings»;
           events = events;
           count = count;
           samples = now («other_samples» .entry);

@@ -9,21 +9,22 @@ use borrow.Author.Tests.{le-leb}
 use lib.Dec.{T, eqb}
 use lib.ListN.{length, drop, length-set, length-replicate}
 use lib.Ieee.{Float, binary64, sub}
+use Rattle.limits.specs.Limits.{mostCycleEvents, mostSamples}
 use Rattle.binary64.specs.Doubles.{plusZero}
 use Rattle.refusal.specs.Result as R
 use Rattle.matrix.specs.Matrix.{cell}
 use Rattle.matrix.proofs.Filled.{tabulate-length}
-use Rattle.protocol.specs.Entry.{mostSamples}
 use Rattle.protocol.specs.PlainRun.{oneOf}
 use Rattle.protocol.proofs.ListLaws.{or-right}
 use Rattle.simulation.specs.KernelRun.{propagatorOf}
-use Rattle.cycle.specs.Fold.{mostCycleEvents}
 use Rattle.cycle.specs.Elimination.{System, leastPivot, eliminateTo, solveTo, solve}
-use Rattle.cycle.specs.Closed.{Timed, stopped, got, lastPost, residualsOf, Solved, closed, SteadyReply, steadyReplyOf, answerAtExit}
-use Rattle.cycle.specs.ClosedCycle.{TimesFit, closedNumbers, Answers, ClosedCycle}
+use Rattle.cycle.specs.Closed.{Timed, stopped, got, lastPost, residualsOf, SteadyState, closed, SteadyReport, steadyReportOf, answerAtExit}
+use Rattle.cycle.specs.ClosedCycle.{TimesFit, closedNumbers, CandidateAnswer, ClosedCycle}
 use Rattle.periodic_acceptance.specs.Entry.{steadyEntry, steadyReply}
 use Rattle.periodic_acceptance.specs.declared.SteadyReply as P
-use Rattle.theorem_runs_and_cycles.specs.PeriodicSteadyState.{Slices, Call, states, listed, entryOf, Contract, Passed, candidate, YieldsOn, AcceptsOn, RejectsOn, AtAnswer, AtRefusal, Replied, EverySteadyState}
+use Rattle.theorem_runs_and_cycles.specs.PeriodicSteadyState.{Slices, Call, callStates, callEvents, entryOf, Contract, Passed}
+use Rattle.theorem_runs_and_cycles.specs.PeriodicSteadyState.{candidate, YieldsOn, AcceptsOn, RejectsOn, AtAnswer, AtRefusal}
+use Rattle.theorem_runs_and_cycles.specs.PeriodicSteadyState.{Replied, EverySteadyState}
 use Rattle.theorem_runs_and_cycles.proofs.Demand3.{demand-3}
 use Rattle.theorem_runs_and_cycles.proofs.Simulate.{not-zero}
 
@@ -57,84 +58,95 @@ module _ (c : Call) (r : P.SteadyReply) (exit : Slices) (q : Contract c r exit) 
   -- the reply and the slices of a refusal
   refusal : (m : ℕ) (t : Float) → entryOf c ≡ stopped m t → AtRefusal c r exit m t
   refusal m t e =
-      let y = q .reply ∙ ap steadyReplyOf e in
+      let y = q .reply ∙ ap steadyReportOf e in
       record {
-        number = ap (λ (x : SteadyReply). x .number) y;
-        time = ap (λ (x : SteadyReply). x .time) y;
-        greatest = ap (λ (x : SteadyReply). x .greatest) y;
+        number = ap (λ (x : SteadyReport). x .number) y;
+        time = ap (λ (x : SteadyReport). x .time) y;
+        maximum = ap (λ (x : SteadyReport). x .maximum) y;
         slices =
             ap₂ (λ (a b : List Float). record { amounts = a; residual = b })
-            (q .amounts ∙ ap (λ (o : Timed Solved). answerAtExit (λ s. s .amounts) o (c .lent .amounts)) e)
-            (q .residual ∙ ap (λ (o : Timed Solved). answerAtExit (λ s. s .residuals) o (c .lent .residual)) e);
+            (q .amounts ∙ ap (λ (o : Timed SteadyState). answerAtExit (λ s. s .amounts) o (c .lent .amounts)) e)
+            (q .residual ∙ ap (λ (o : Timed SteadyState). answerAtExit (λ s. s .residuals) o (c .lent .residual)) e);
       }
 
   unchanged : 0 < steadyReply r .number → AtRefusal c r exit (steadyReply r .number) (steadyReply r .time)
   unchanged l = on (entryOf c) refl
     where
-      on : (o : Timed Solved) → entryOf c ≡ o → AtRefusal c r exit (steadyReply r .number) (steadyReply r .time)
-      on (stopped m t) e = let h = refusal m t e in record { number = refl; time = refl; greatest = h .greatest; slices = h .slices }
-      on (got s) e = not-zero l (ap (λ (x : SteadyReply). x .number) (q .reply ∙ ap steadyReplyOf e))
+      on : (o : Timed SteadyState) → entryOf c ≡ o → AtRefusal c r exit (steadyReply r .number) (steadyReply r .time)
+      on (stopped m t) e = let h = refusal m t e in record { number = refl; time = refl; maximum = h .maximum; slices = h .slices }
+      on (got s) e = not-zero l (ap (λ (x : SteadyReport). x .number) (q .reply ∙ ap steadyReportOf e))
 
-  module _ (f : TimesFit (c .window) (listed c)) (p : Passed c) where
-    abbrev whole : Timed Solved
-    whole = closed (propagatorOf (c .kernel)) (states c) (c .window) (c .samples) (listed c) (c .tolerance) true
+  module _ (f : TimesFit (c .window) (callEvents c)) (p : Passed c) where
+    abbrev whole : Timed SteadyState
+    whole = closed (propagatorOf (c .kernel)) (callStates c) (c .window) (c .samples) (callEvents c) (c .tolerance) true
 
     begins : entryOf c ≡ whole
     unfolding steadyEntry
-    begins = rw (le-leb (c .count) mostCycleEvents (p .count), le-leb (length (c .samples)) mostSamples (p .samples), p .kernel, le-leb (states c) (length (c .lent .amounts)) (p .amounts), le-leb (states c) (length (c .lent .residual)) (p .residual))
+    begins =
+        rw (
+          le-leb (c .count) mostCycleEvents (p .count),
+          le-leb (length (c .samples)) mostSamples (p .samples),
+          p .kernel,
+          le-leb (callStates c) (length (c .lent .amounts)) (p .amounts),
+          le-leb (callStates c) (length (c .lent .residual)) (p .residual),
+        )
 
-    cycle : ClosedCycle (propagatorOf (c .kernel)) (states c) (c .window) (c .samples) (listed c) (c .tolerance)
-    cycle = demand-3 .closed-cycle (c .kernel) (p .kernel) (c .window) (c .samples) (listed c) (c .tolerance) f
+    cycle : ClosedCycle (propagatorOf (c .kernel)) (callStates c) (c .window) (c .samples) (callEvents c) (c .tolerance)
+    cycle = demand-3 .closed-cycle (c .kernel) (p .kernel) (c .window) (c .samples) (callEvents c) (c .tolerance) f
 
     -- 0 is the number of an answer
-    at-zero : steadyReply r .number ≡ 0 → (s : Solved) × (whole ≡ got s)
+    at-zero : steadyReply r .number ≡ 0 → (s : SteadyState) × (whole ≡ got s)
     at-zero e = on whole refl
       where
-        on : (o : Timed Solved) → whole ≡ o → (s : Solved) × (whole ≡ got s)
+        on : (o : Timed SteadyState) → whole ≡ o → (s : SteadyState) × (whole ≡ got s)
         on (stopped m t) d = not-zero (positive m (cycle .numbers m t d)) (sym (refusal m t (begins ∙ d) .number) ∙ e)
         on (got s) d = (s, d)
 
-    reply-of : (s : Solved) → whole ≡ got s → steadyReply r ≡ steadyReplyOf (got s)
-    reply-of s d = q .reply ∙ ap steadyReplyOf (begins ∙ d)
+    reply-of : (s : SteadyState) → whole ≡ got s → steadyReply r ≡ steadyReportOf (got s)
+    reply-of s d = q .reply ∙ ap steadyReportOf (begins ∙ d)
 
     answer : (a : List Float) (y : YieldsOn c a) (h : AcceptsOn c (y .folded) a) → AtAnswer c r exit a (lastPost [] (h .left .rows))
     answer a y h =
         record {
-          time = ap (λ (x : SteadyReply). x .time) (reply-of s d);
-          greatest = ap (λ (x : SteadyReply). x .greatest) (reply-of s d) ∙ g .greatest;
+          time = ap (λ (x : SteadyReport). x .time) (reply-of s d);
+          maximum = ap (λ (x : SteadyReport). x .maximum) (reply-of s d) ∙ g .maximum;
           amounts =
-              q .amounts ∙ ap (λ (o : Timed Solved). answerAtExit (λ s. s .amounts) o (c .lent .amounts)) (begins ∙ d)
-              ∙ ap (λ (xs : List Float). xs ++ drop (length xs) (c .lent .amounts)) (g .amounts) ∙ ap (λ (k : ℕ). a ++ drop k (c .lent .amounts)) (solve-length (states c) _ a (y .solves));
+              q .amounts ∙ ap (λ (o : Timed SteadyState). answerAtExit (λ s. s .amounts) o (c .lent .amounts)) (begins ∙ d)
+              ∙ ap (λ (xs : List Float). xs ++ drop (length xs) (c .lent .amounts)) (g .amounts)
+              ∙ ap (λ (k : ℕ). a ++ drop k (c .lent .amounts)) (solve-length (callStates c) _ a (y .solves));
           residual =
-              q .residual ∙ ap (λ (o : Timed Solved). answerAtExit (λ s. s .residuals) o (c .lent .residual)) (begins ∙ d)
-              ∙ ap (λ (xs : List Float). xs ++ drop (length xs) (c .lent .residual)) (g .residuals) ∙ ap (λ (k : ℕ). residualsOf (states c) a end ++ drop k (c .lent .residual)) (residuals-length (states c) a end);
+              q .residual ∙ ap (λ (o : Timed SteadyState). answerAtExit (λ s. s .residuals) o (c .lent .residual)) (begins ∙ d)
+              ∙ ap (λ (xs : List Float). xs ++ drop (length xs) (c .lent .residual)) (g .residuals)
+              ∙ ap (λ (k : ℕ). residualsOf (callStates c) a end ++ drop k (c .lent .residual)) (residuals-length (callStates c) a end);
         }
       where
         end : List Float
         end = lastPost [] (h .left .rows)
 
-        s : Solved
+        s : SteadyState
         s = cycle .accepts a y .1 h .0
 
         d : whole ≡ got s
         d = cycle .accepts a y .1 h .1
 
-        g : Answers (states c) (c .tolerance) a end s
+        g : CandidateAnswer (callStates c) (c .tolerance) a end s
         g = cycle .answer a y h s d
 
     yields : ((a : List Float) × YieldsOn c a) ⊎ ((m : ℕ) × (t : Float) × (candidate c ≡ stopped m t) × AtRefusal c r exit m t)
     yields = on (candidate c) refl
       where
-        on : (o : Timed (List Float)) → candidate c ≡ o → ((a : List Float) × YieldsOn c a) ⊎ ((m : ℕ) × (t : Float) × (candidate c ≡ stopped m t) × AtRefusal c r exit m t)
+        on : (o : Timed (List Float)) → candidate c ≡ o → ((a : List Float) × YieldsOn c a)
+            ⊎ ((m : ℕ) × (t : Float) × (candidate c ≡ stopped m t) × AtRefusal c r exit m t)
         on (stopped m t) d = inr (m, t, d, refusal m t (begins ∙ cycle .refuses m t d))
         on (got a) d = inl (a, cycle .yields a .0 d)
 
-    above : (a : List Float) (y : YieldsOn c a) (m : ℕ) (t : Float) → ((0 < m) × ((steadyReply r .number ≡ m) × (steadyReply r .time ≡ t))) ↔ RejectsOn c (y .folded) a m t
+    above : (a : List Float) (y : YieldsOn c a) (m : ℕ) (t : Float) → ((0 < m) × ((steadyReply r .number ≡ m) × (steadyReply r .time ≡ t)))
+        ↔ RejectsOn c (y .folded) a m t
     above a y m t = ((λ h. cycle .rejects a y m t .0 (on whole refl (h .0) (h .1 .0) (h .1 .1))), refused)
       where
-        on : (o : Timed Solved) → whole ≡ o → 0 < m → steadyReply r .number ≡ m → steadyReply r .time ≡ t → whole ≡ stopped m t
+        on : (o : Timed SteadyState) → whole ≡ o → 0 < m → steadyReply r .number ≡ m → steadyReply r .time ≡ t → whole ≡ stopped m t
         on (stopped k u) d l e f = let h = refusal k u (begins ∙ d) in d ∙ ap₂ stopped (sym (h .number) ∙ e) (sym (h .time) ∙ f)
-        on (got s) d l e f = not-zero l (sym e ∙ ap (λ (x : SteadyReply). x .number) (reply-of s d))
+        on (got s) d l e f = not-zero l (sym e ∙ ap (λ (x : SteadyReport). x .number) (reply-of s d))
 
         refused : RejectsOn c (y .folded) a m t → (0 < m) × ((steadyReply r .number ≡ m) × (steadyReply r .time ≡ t))
         refused g =
@@ -145,14 +157,19 @@ module _ (c : Call) (r : P.SteadyReply) (exit : Slices) (q : Contract c r exit) 
     numbers : T (oneOf (steadyReply r .number) (0 ∷ closedNumbers))
     numbers = on whole refl
       where
-        on : (o : Timed Solved) → whole ≡ o → T (oneOf (steadyReply r .number) (0 ∷ closedNumbers))
+        on : (o : Timed SteadyState) → whole ≡ o → T (oneOf (steadyReply r .number) (0 ∷ closedNumbers))
         on (stopped m t) d = rw (refusal m t (begins ∙ d) .number) (or-right (eqb m 0) (oneOf m closedNumbers) (cycle .numbers m t d))
-        on (got s) d = rw (ap (λ (x : SteadyReply). x .number) (reply-of s d)) tt
+        on (got s) d = rw (ap (λ (x : SteadyReport). x .number) (reply-of s d)) tt
 
     replied : Replied c r exit
     replied = record {
       yields = yields;
-      zero = λ a y. ((λ e. cycle .accepts a y .0 (at-zero e)), λ h. let s = cycle .accepts a y .1 h in ap (λ (x : SteadyReply). x .number) (reply-of (s .0) (s .1)));
+      zero =
+          λ a y. (
+            (λ e. cycle .accepts a y .0 (at-zero e)),
+            λ h. let s = cycle .accepts a y .1 h in ap (λ (x : SteadyReport). x .number)
+                (reply-of (s .0) (s .1)),
+          );
       answer = λ a y h. (cycle .ends a y h .0, answer a y h);
       above = above;
       needs = λ e. let s = at-zero e in (s .0 .amounts, cycle .needs (s .0) (s .1));

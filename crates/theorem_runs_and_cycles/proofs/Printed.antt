@@ -16,10 +16,10 @@ use Rattle.protocol.specs.PlainRun.{oneOf}
 use Rattle.protocol.proofs.ListLaws.{or-right}
 use Rattle.simulation.specs.KernelRun.{propagatorOf}
 use Rattle.events_layout.specs.Layout.{eventsOf}
-use Rattle.cycle.specs.Closed.{Timed, stopped, got, then, untimed, lastPost, residualsOf, Solved, closed, steadyReplyOf}
-use Rattle.cycle.specs.ClosedCycle.{closedNumbers, Answers, ClosedCycle}
+use Rattle.cycle.specs.Closed.{Timed, stopped, got, then, untimed, lastPost, residualsOf, SteadyState, closed, steadyReportOf}
+use Rattle.cycle.specs.ClosedCycle.{closedNumbers, CandidateAnswer, ClosedCycle}
 use Rattle.sheet.specs.Sheet.{Sheet, readSheet}
-use Rattle.sheet_kernel.specs.Values.{windowOf, modelOf}
+use Rattle.sheet_kernel.specs.Values.{sheetWindow, modelOf}
 use Rattle.rig_run_sheet.specs.SheetRun.{doublesOf}
 use Rattle.rig_run_sheet.proofs.Words.{times-made, start-made, end-made}
 use Rattle.sheet_kernel.specs.CycleTolerance.{toleranceOf}
@@ -37,21 +37,21 @@ above : (m : ℕ) → T (oneOf m closedNumbers) → m ≡ 0 → ⊥
 above zero h e = h
 above (suc m) h e = omega arith
 
-refusal : {m : ℕ} {t : Float} {o : Timed Solved} → o ≡ stopped m t → PrintsRefusal m t (steadyPrintout o)
+refusal : {m : ℕ} {t : Float} {o : Timed SteadyState} → o ≡ stopped m t → PrintsRefusal m t (steadyPrintout o)
 unfolding steadyText
-refusal e = record { number = ap (λ (o : Timed Solved). steadyReplyOf o .number) e; text = ap steadyText e }
+refusal e = record { number = ap (λ (o : Timed SteadyState). steadyReportOf o .number) e; text = ap steadyText e }
 
 -- ---- the closed cycle of a sheet
 module _ (s : Sheet) (k : LinearPk) (made : modelOf (s .model) ≡ done k) where
   abbrev n : ℕ
   n = stateCount k
 
-  abbrev whole : Timed Solved
-  whole = closed (propagatorOf k) n (windowOf (s .window)) (doublesOf (s .samples)) (eventsOf (s .events)) (toleranceOf (s .window)) true
+  abbrev whole : Timed SteadyState
+  whole = closed (propagatorOf k) n (sheetWindow (s .window)) (doublesOf (s .samples)) (eventsOf (s .events)) (toleranceOf (s .window)) true
 
-  facts : ClosedCycle (propagatorOf k) n (windowOf (s .window)) (doublesOf (s .samples)) (eventsOf (s .events)) (toleranceOf (s .window))
+  facts : ClosedCycle (propagatorOf k) n (sheetWindow (s .window)) (doublesOf (s .samples)) (eventsOf (s .events)) (toleranceOf (s .window))
   facts =
-      demand-3 .closed-cycle k (model-sound (s .model) made) (windowOf (s .window)) (doublesOf (s .samples)) (eventsOf (s .events)) (toleranceOf (s .window))
+      demand-3 .closed-cycle k (model-sound (s .model) made) (sheetWindow (s .window)) (doublesOf (s .samples)) (eventsOf (s .events)) (toleranceOf (s .window))
       (record { start-fits = start-made (s .window); end-fits = end-made (s .window); times-fit = times-made (s .events) })
 
   kept : Kept n whole
@@ -59,10 +59,10 @@ module _ (s : Sheet) (k : LinearPk) (made : modelOf (s .model) ≡ done k) where
   kept = steady-kept k (s .window) (s .samples) (s .events) (model-sound (s .model) made)
 
   -- 0 is the number of an answer
-  at-zero : steadyPrintout whole .number ≡ 0 → (x : Solved) × (whole ≡ got x)
+  at-zero : steadyPrintout whole .number ≡ 0 → (x : SteadyState) × (whole ≡ got x)
   at-zero e = on whole refl e
     where
-      on : (o : Timed Solved) → whole ≡ o → steadyPrintout o .number ≡ 0 → (x : Solved) × (whole ≡ got x)
+      on : (o : Timed SteadyState) → whole ≡ o → steadyPrintout o .number ≡ 0 → (x : SteadyState) × (whole ≡ got x)
       on (stopped m t) d z = absurd (above m (facts .numbers m t d) z)
       on (got x) d z = (x, d)
 
@@ -70,25 +70,25 @@ module _ (s : Sheet) (k : LinearPk) (made : modelOf (s .model) ≡ done k) where
   unfolding steadyText solvedText
   answer a y h =
       record {
-        number = ap (λ (o : Timed Solved). steadyReplyOf o .number) d;
+        number = ap (λ (o : Timed SteadyState). steadyReportOf o .number) d;
         states = ap length (sym (g .amounts)) ∙ z .amounts;
         text =
             ap steadyText d
-            ∙ ap (λ (xs : List Float). stateLines xs (x .residuals) ++ maxLine (x .greatest)) (g .amounts)
-            ∙ ap (λ (rs : List Float). stateLines a rs ++ maxLine (x .greatest)) (g .residuals)
-            ∙ ap (λ (m : Float). stateLines a (residualsOf n a end) ++ maxLine m) (g .greatest);
+            ∙ ap (λ (xs : List Float). stateLines xs (x .residuals) ++ maxLine (x .maximum)) (g .amounts)
+            ∙ ap (λ (rs : List Float). stateLines a rs ++ maxLine (x .maximum)) (g .residuals)
+            ∙ ap (λ (m : Float). stateLines a (residualsOf n a end) ++ maxLine m) (g .maximum);
       }
     where
       end : List Float
       end = lastPost [] (h .left .rows)
 
-      x : Solved
+      x : SteadyState
       x = facts .accepts a y .1 h .0
 
       d : whole ≡ got x
       d = facts .accepts a y .1 h .1
 
-      g : Answers n (toleranceOf (s .window)) a end x
+      g : CandidateAnswer n (toleranceOf (s .window)) a end x
       g = facts .answer a y h x d
 
       z : Sized n x
@@ -97,21 +97,22 @@ module _ (s : Sheet) (k : LinearPk) (made : modelOf (s .model) ≡ done k) where
   rejected : (a : List Float) (y : YieldsOn s k a) → (AcceptsOn s k (y .folded) a → ⊥) → (m : ℕ) × (t : Float) × RejectsOn s k (y .folded) a m t
   rejected a y fails = on whole refl
     where
-      on : (o : Timed Solved) → whole ≡ o → (m : ℕ) × (t : Float) × RejectsOn s k (y .folded) a m t
+      on : (o : Timed SteadyState) → whole ≡ o → (m : ℕ) × (t : Float) × RejectsOn s k (y .folded) a m t
       on (stopped m t) d = (m, t, facts .rejects a y m t .0 d)
       on (got x) d = absurd (fails (facts .accepts a y .0 (x, d)))
 
   yields : ((a : List Float) × YieldsOn s k a) ⊎ ((m : ℕ) × (t : Float) × (candidate s k ≡ stopped m t) × PrintsRefusal m t (steadyPrintout whole))
   yields = on (candidate s k) refl
     where
-      on : (o : Timed (List Float)) → candidate s k ≡ o → ((a : List Float) × YieldsOn s k a) ⊎ ((m : ℕ) × (t : Float) × (candidate s k ≡ stopped m t) × PrintsRefusal m t (steadyPrintout whole))
+      on : (o : Timed (List Float)) → candidate s k ≡ o → ((a : List Float) × YieldsOn s k a)
+          ⊎ ((m : ℕ) × (t : Float) × (candidate s k ≡ stopped m t) × PrintsRefusal m t (steadyPrintout whole))
       on (stopped m t) d = inr (m, t, d, refusal (facts .refuses m t d))
       on (got a) d = inl (a, facts .yields a .0 d)
 
   numbers : T (oneOf (steadyPrintout whole .number) (0 ∷ closedNumbers))
   numbers = on whole refl
     where
-      on : (o : Timed Solved) → whole ≡ o → T (oneOf (steadyPrintout o .number) (0 ∷ closedNumbers))
+      on : (o : Timed SteadyState) → whole ≡ o → T (oneOf (steadyPrintout o .number) (0 ∷ closedNumbers))
       on (stopped m t) d = or-right (eqb m 0) (oneOf m closedNumbers) (facts .numbers m t d)
       on (got x) d = tt
 
@@ -136,13 +137,14 @@ module _ (bs : List ℕ) where
   unfolding steadyOfBytes
   unread m e = ap (λ (r : Result Sheet). then (untimed r) steadySheet) e
 
-  model : (s : Sheet) (r : Result LinearPk) → modelOf (s .model) ≡ r → steadySheet s ≡ then (untimed r) (λ (k : LinearPk). steadyWith k (s .window) (s .samples) (s .events))
+  model : (s : Sheet) (r : Result LinearPk) → modelOf (s .model) ≡ r
+      → steadySheet s ≡ then (untimed r) (λ (k : LinearPk). steadyWith k (s .window) (s .samples) (s .events))
   unfolding steadySheet
   model s r e = ap (λ (r : Result LinearPk). then (untimed r) (λ (k : LinearPk). steadyWith k (s .window) (s .samples) (s .events))) e
 
   cycle : (s : Sheet) (k : LinearPk) → readSheet bs ≡ done s → modelOf (s .model) ≡ done k → PrintsCycle s k (steadyPrintoutOfBytes bs)
   unfolding steadyWith
-  cycle s k e p = subst (λ (o : Timed Solved). PrintsCycle s k (steadyPrintout o)) (sym (read s e ∙ model s (done k) p)) (prints-cycle s k p)
+  cycle s k e p = subst (λ (o : Timed SteadyState). PrintsCycle s k (steadyPrintout o)) (sym (read s e ∙ model s (done k) p)) (prints-cycle s k p)
 
   pub every-printout : Printed bs (steadyPrintoutOfBytes bs)
   every-printout = record { unread = λ m e. refusal (unread m e); unmade = λ s m e p. refusal (read s e ∙ model s (refused m) p); cycle = cycle }

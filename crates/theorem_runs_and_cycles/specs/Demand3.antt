@@ -1,4 +1,5 @@
--- Demand 3 as one claim, at the kernel and 01's scheme: plain runs, closed cycles, and runs that differ in samples, tolerances and budgets alone. A claim, no proof.
+-- Demand 3 as one claim, at the kernel and 01's scheme: plain runs, closed cycles, and runs that differ in samples, tolerances and budgets
+-- alone. A claim, no proof.
 use mathlib.Core.Path.{_≡_}
 use mathlib.Core.List.{List}
 use lib.Ieee.{Float}

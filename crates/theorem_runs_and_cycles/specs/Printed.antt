@@ -15,9 +15,9 @@ use Rattle.protocol.specs.PlainRun.{oneOf, Reached}
 use Rattle.simulation.specs.KernelRun.{propagatorOf}
 use Rattle.events_layout.specs.Layout.{eventsOf}
 use Rattle.cycle.specs.Closed.{Timed, stopped, divided, lastPost, candidateOf, residualsOf}
-use Rattle.cycle.specs.ClosedCycle.{closedNumbers, Yields, Accepts, Rejects, largestTo}
+use Rattle.cycle.specs.ClosedCycle.{closedNumbers, Yields, Accepts, Rejects, maximumTo}
 use Rattle.sheet.specs.Sheet.{Sheet, readSheet}
-use Rattle.sheet_kernel.specs.Values.{windowOf, modelOf}
+use Rattle.sheet_kernel.specs.Values.{sheetWindow, modelOf}
 use Rattle.rig_run_sheet.specs.SheetRun.{doublesOf}
 use Rattle.sheet_kernel.specs.CycleTolerance.{toleranceOf}
 use Rattle.printout.specs.Printout.{refusedText}
@@ -27,25 +27,25 @@ use Rattle.printout_steady.specs.SteadyPrintout.{stateLines, maxLine}
 -- ---- the closed cycle of a sheet s, whose kernel is k
 module _ (s : Sheet) (k : LinearPk) where
   abbrev pub candidate : Timed (List Float)
-  candidate = candidateOf (propagatorOf k) (stateCount k) (windowOf (s .window)) (doublesOf (s .samples)) (eventsOf (s .events)) (toleranceOf (s .window))
+  candidate = candidateOf (propagatorOf k) (stateCount k) (sheetWindow (s .window)) (doublesOf (s .samples)) (eventsOf (s .events)) (toleranceOf (s .window))
 
   -- elimination yields the candidate a
   abbrev pub YieldsOn : List Float → Type 0
-  YieldsOn a = Yields (propagatorOf k) (stateCount k) (windowOf (s .window)) (doublesOf (s .samples)) (eventsOf (s .events)) (toleranceOf (s .window)) a
+  YieldsOn a = Yields (propagatorOf k) (stateCount k) (sheetWindow (s .window)) (doublesOf (s .samples)) (eventsOf (s .events)) (toleranceOf (s .window)) a
 
   -- the candidate a of the folded list fs is accepted
   abbrev pub AcceptsOn : List Event → List Float → Type 0
-  AcceptsOn fs a = Accepts (propagatorOf k) (stateCount k) (windowOf (s .window)) (toleranceOf (s .window)) fs a
+  AcceptsOn fs a = Accepts (propagatorOf k) (stateCount k) (sheetWindow (s .window)) (toleranceOf (s .window)) fs a
 
   -- it is refused with the number m and the time t
   abbrev pub RejectsOn : List Event → List Float → ℕ → Float → Type 0
-  RejectsOn fs a m t = Rejects (propagatorOf k) (stateCount k) (windowOf (s .window)) (toleranceOf (s .window)) fs a m t
+  RejectsOn fs a m t = Rejects (propagatorOf k) (stateCount k) (sheetWindow (s .window)) (toleranceOf (s .window)) fs a m t
 
   -- p is the printout of the answer a, whose own run ends with e: a line of amount and residual for each state, then `max` and the greatest scaled residual
   pub record PrintsAnswer (a e : List Float) (p : Printout) : Type 0 where
     pub number : p .number ≡ 0
     pub states : length a ≡ stateCount k
-    pub text : p .text ≡ stateLines a (residualsOf (stateCount k) a e) ++ maxLine (largestTo (toleranceOf (s .window)) a e (stateCount k))
+    pub text : p .text ≡ stateLines a (residualsOf (stateCount k) a e) ++ maxLine (maximumTo (toleranceOf (s .window)) a e (stateCount k))
 
 -- p is the printout of the refusal by the number m with the time t
 pub record PrintsRefusal (m : ℕ) (t : Float) (p : Printout) : Type 0 where
@@ -60,7 +60,7 @@ pub record PrintsCycle (s : Sheet) (k : LinearPk) (p : Printout) : Type 0 where
   pub zero : (a : List Float) (y : YieldsOn s k a) → (p .number ≡ 0) ↔ AcceptsOn s k (y .folded) a
   -- then its run comes to the post row at the end, and the candidate and the residuals of that run are printed
   pub answer : (a : List Float) (y : YieldsOn s k a) (h : AcceptsOn s k (y .folded) a)
-      → Reached (stateCount k) (divided (stateCount k) (windowOf (s .window))) [] (y .folded) (h .left) × PrintsAnswer s k a (lastPost [] (h .left .rows)) p
+      → Reached (stateCount k) (divided (stateCount k) (sheetWindow (s .window))) [] (y .folded) (h .left) × PrintsAnswer s k a (lastPost [] (h .left .rows)) p
   -- where it is not accepted it is refused, by 34, its run, 35 or 36, and that refusal is printed
   pub rejected : (a : List Float) (y : YieldsOn s k a) → (AcceptsOn s k (y .folded) a → ⊥) → (m : ℕ) × (t : Float) × RejectsOn s k (y .folded) a m t
   pub refusal : (a : List Float) (y : YieldsOn s k a) (m : ℕ) (t : Float) → RejectsOn s k (y .folded) a m t → PrintsRefusal m t p

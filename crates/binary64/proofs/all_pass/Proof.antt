@@ -23,9 +23,13 @@ loop-holds c = (omega arith, refl)
 
 loop-again : tie.Need-loop-again Inv-loop μ-loop
 loop-again c =
-    let s = c .before .before .before .before .before in
-    let l = c .before .before .before .loop in
-    (omega arith, all-more (passesTest (s .args .test)) (s .args .xs .now) nan (l .i) (l .ok) (c .before .before .loop-test .taken) (c .passes .ensures) (l .inv .1))
+    let at-loop = c .before .before .before in
+    let s = at-loop .before .before in
+    let l = at-loop .loop in (
+      omega arith,
+      all-more (passesTest (s .args .test)) (s .args .xs .now) nan (l .i) (l .ok) (c .before .before .loop-test .taken)
+          (c .passes .ensures) (l .inv .1),
+    )
 
 returns : tie.Need-returns Inv-loop μ-loop
 returns c =

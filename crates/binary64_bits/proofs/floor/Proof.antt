@@ -1,4 +1,5 @@
--- `binary64_bits::floor` meets its contract: a value whose sign is set is handed back, below 1 the floor is 0, from 2 ^ 52 on x is whole, and between the bits of the fraction are cleared. Assumes nothing.
+-- `binary64_bits::floor` meets its contract: a value whose sign is set is handed back, below 1 the floor is 0, from 2 ^ 52 on x is whole,
+-- and between the bits of the fraction are cleared. Assumes nothing.
 use borrow.Author.Needs.{needs}
 use lib.Ieee.{binary64, ofBits}
 use Rattle.binary64.specs.Doubles.{floorOf}
@@ -25,13 +26,19 @@ returns-3 c = let s = c .before .before in floor64-whole (s .before .args .x) (g
 
 returns-4 : tie.Need-returns-4
 unfolding ofBits
-returns-4 c = let s = c .before .before .before in floor64-small (s .before .args .x) (good s) (c .before .before .if2 .left) (c .if4 .taken)
+returns-4 c =
+    let s = c .before .before .before in
+    floor64-small (s .before .args .x) (good s) (c .before .before .if2 .left) (c .if4 .taken)
 
 float-from-bits-result : tie.Need-float-from-bits-result
-float-from-bits-result c = let s = c .before .before .before in floor64-real (s .before .args .x) (good s) (c .before .before .if2 .left) (c .before .if3 .left) (c .if4 .left)
+float-from-bits-result c =
+    let s = c .before .before .before in
+    floor64-real (s .before .args .x) (good s) (c .before .before .if2 .left) (c .before .if3 .left) (c .if4 .left)
 
 returns-5 : tie.Need-returns-5
-returns-5 c = let s = c .before .before .before in floor64-cut (s .before .args .x) (good s) (c .before .before .if2 .left) (c .before .if3 .left) (c .if4 .left)
+returns-5 c =
+    let s = c .before .before .before in
+    floor64-cut (s .before .args .x) (good s) (c .before .before .if2 .left) (c .before .if3 .left) (c .if4 .left)
 
 pub floor-spec : {M : Type 1} → statement M
 floor-spec =

@@ -4,7 +4,9 @@ use Rattle.capi.proofs.linear_pk_advance.Statement.{statement}
 use Rattle.capi.proofs.linear_pk_advance.Tie as tie
 
 returns : tie.Need-returns
-returns c = rw (← c .before .before .before .before .before .kernel-at .ensures, c .number .ensures) (c .before .before .before .advance .ensures)
+returns c =
+    let at-advance = c .before .before .before in
+    rw (← at-advance .before .before .kernel-at .ensures, c .number .ensures) (at-advance .advance .ensures)
 
 pub linear-pk-advance-spec : {M : Type 1} → statement M
 linear-pk-advance-spec =

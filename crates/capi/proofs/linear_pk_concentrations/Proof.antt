@@ -4,7 +4,9 @@ use Rattle.capi.proofs.linear_pk_concentrations.Statement.{statement}
 use Rattle.capi.proofs.linear_pk_concentrations.Tie as tie
 
 returns : tie.Need-returns
-returns c = rw (← c .before .before .before .before .before .kernel-at .ensures, c .number .ensures) (c .before .before .before .concentrations .ensures)
+returns c =
+    let at-concentrations = c .before .before .before in
+    rw (← at-concentrations .before .before .kernel-at .ensures, c .number .ensures) (at-concentrations .concentrations .ensures)
 
 pub linear-pk-concentrations-spec : {M : Type 1} → statement M
 linear-pk-concentrations-spec =

@@ -17,10 +17,14 @@ loop-holds : tie.Need-loop-holds Inv-loop μ-loop
 loop-holds c = (omega arith, put-start _ _)
 
 put-event-requires : tie.Need-put-event-requires Inv-loop μ-loop
-put-event-requires c κs = let v = c .before .before .before .loop .inv .1 in omega (arith, v .place, v .wrote .same)
+put-event-requires c κs =
+    let v = c .before .before .before .loop .inv .1 in
+    omega (arith, v .place, v .wrote .same)
 
 loop-again : tie.Need-loop-again Inv-loop μ-loop
-loop-again c = (omega arith, put-more _ _ _ _ _ _ (search needs) (c .before .before .before .before .before .before .loop .inv .1) (c .before .before .put-event .ensures))
+loop-again c =
+    let at-loop = c .before .before .before .before .before .before in
+    (omega arith, put-more _ _ _ _ _ _ (search needs) (at-loop .loop .inv .1) (c .before .before .put-event .ensures))
 
 returns : tie.Need-returns Inv-loop μ-loop
 returns c = rw (le-antisymm (c .before .loop .inv .0) (c .loop-test .left)) at (c .before .loop .inv .1 .wrote)

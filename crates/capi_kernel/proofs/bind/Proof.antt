@@ -7,13 +7,37 @@ use Rattle.capi_kernel.proofs.bind.Statement.{statement}
 use Rattle.capi_kernel.proofs.bind.Tie as tie
 
 returns : tie.Need-returns
-returns c = rw (← c .before .before .before .before .before .kernel-at .ensures, bind-done _ _ _ (sym (rw (c .before .before .enum-told .given .1) at (c .before .before .before .before .bind .ensures .0))), lt-leb _ _ (c .before .if1 .taken), c .number2 .ensures) (refl, refl)
+returns c =
+    let at-bind = c .before .before .before .before in
+    rw (
+      ← at-bind .before .kernel-at .ensures,
+      bind-done _ _ _ (sym (rw (c .before .before .enum-told .given .1) at
+          (at-bind .bind .ensures .0))),
+      lt-leb _ _ (c .before .if1 .taken),
+      c .number2 .ensures,
+    ) (refl, refl)
 
 returns-2 : tie.Need-returns-2
-returns-2 c = rw (← c .before .before .before .before .before .kernel-at .ensures, bind-refused _ _ _ (sym (rw (c .before .before .reply .given .1) at (c .before .before .before .before .bind .ensures .0))), c .number .ensures) (refl, refl)
+returns-2 c =
+    let at-bind = c .before .before .before .before in
+    rw (
+      ← at-bind .before .kernel-at .ensures,
+      bind-refused _ _ _ (sym (rw (c .before .before .reply .given .1) at
+          (at-bind .bind .ensures .0))),
+      c .number .ensures,
+    ) (refl, refl)
 
 returns-3 : tie.Need-returns-3
-returns-3 c = rw (← c .before .before .before .before .before .before .before .before .before .before .before .kernel-at .ensures, bind-done _ _ _ (sym (rw (c .before .before .before .before .before .before .before .before .enum-told .given .1) at (c .before .before .before .before .before .before .before .before .before .before .bind .ensures .0))), le-leb _ _ (c .before .before .before .before .before .before .before .if1 .left)) (refl, rw (c .before .before .before .before .before .bound-cells .ensures) at (c .before .before .lay .ensures))
+returns-3 c =
+    let at-bound-cells = c .before .before .before .before .before in
+    let at-if1 = at-bound-cells .before .before in
+    let at-enum-told = at-if1 .before in
+    let at-bind = at-enum-told .before .before in
+    rw (
+      ← at-bind .before .kernel-at .ensures,
+      bind-done _ _ _ (sym (rw (at-enum-told .enum-told .given .1) at (at-bind .bind .ensures .0))),
+      le-leb _ _ (at-if1 .if1 .left),
+    ) (refl, rw (at-bound-cells .bound-cells .ensures) at (c .before .before .lay .ensures))
 
 pub bind-spec : {M : Type 1} → statement M
 bind-spec =

@@ -4,6 +4,7 @@ use borrow.Author.Needs.{needs}
 use native.Mathlib.Omega.{arith}
 use Prim.Native.Nat.{_≤_, _-_}
 use lib.Ieee.{ofBits}
+use Rattle.limits.specs.Limits.{boundCells}
 use Rattle.binary64.specs.Doubles.{plusZero}
 use Rattle.matrix.proofs.Filled.{fill, fillFrom, fill-more, filled}
 use Rattle.capi_kernel_cells.specs.Writing.{boundCell}
@@ -11,10 +12,10 @@ use Rattle.capi_kernel_cells.proofs.bound_cells.Statement.{statement}
 use Rattle.capi_kernel_cells.proofs.bound_cells.Tie as tie
 
 abbrev Inv-loop : tie.InvT-loop
-Inv-loop bound cells₀ i₀ cells i = (i ≤ 25) × (cells ≡ fill 25 i (boundCell bound) plusZero)
+Inv-loop bound cells₀ i₀ cells i = (i ≤ boundCells) × (cells ≡ fill boundCells i (boundCell bound) plusZero)
 
 abbrev μ-loop : tie.MeasureT-loop
-μ-loop bound cells₀ i₀ cells i = 25 - i
+μ-loop bound cells₀ i₀ cells i = boundCells - i
 
 loop-holds : tie.Need-loop-holds Inv-loop μ-loop
 unfolding fill fillFrom ofBits

@@ -1,26 +1,33 @@
--- `capi_kernel_cells::count_at` meets its contract.
-use lib.Ieee.{ofBits}
+-- `capi_kernel_cells::count_at` meets its contract. The invariant: which of 1 to k it is.
+use mathlib.Core.Path.{_≡_, refl}
+use borrow.Author.Needs.{needs}
+use native.Mathlib.Omega.{arith}
+use Prim.Native.Nat.{_≤_, _-_}
+use native.Mathlib.Nat.{le-antisymm}
+use Rattle.limits.specs.Limits.{mostVolumes}
+use Rattle.capi_kernel_cells.specs.Reading.{countTo}
+use Rattle.capi_kernel_cells.proofs.Counts.{count-more}
 use Rattle.capi_kernel_cells.proofs.count_at.Statement.{statement}
 use Rattle.capi_kernel_cells.proofs.count_at.Tie as tie
 
-returns : tie.Need-returns
-unfolding ofBits
-returns c = rw (c .if1 .taken)
+abbrev Inv-loop : tie.InvT-loop
+Inv-loop x count₀ k₀ count k = (k ≤ mostVolumes) × (count ≡ countTo k x)
 
-returns-2 : tie.Need-returns-2
-unfolding ofBits
-returns-2 c = rw (c .before .if1 .left, c .if2 .taken)
+abbrev μ-loop : tie.MeasureT-loop
+μ-loop x count₀ k₀ count k = mostVolumes - k
 
-returns-3 : tie.Need-returns-3
-unfolding ofBits
-returns-3 c = rw (c .before .before .if1 .left, c .before .if2 .left, c .if3 .taken)
+loop-holds : tie.Need-loop-holds Inv-loop μ-loop
+unfolding countTo
+loop-holds c = (omega arith, refl)
 
-returns-4 : tie.Need-returns-4
-unfolding ofBits
-returns-4 c = rw (c .before .before .if1 .left, c .before .if2 .left, c .if3 .left)
+loop-again : tie.Need-loop-again Inv-loop μ-loop
+loop-again c = (omega arith, count-more _ _ (c .before .before .loop .inv .1) (c .count-or .ensures))
+
+returns : tie.Need-returns Inv-loop μ-loop
+returns c = rw (le-antisymm (c .before .loop .inv .0) (c .loop-test .left)) at (c .before .loop .inv .1)
 
 pub count-at-spec : {M : Type 1} → statement M
 count-at-spec =
     tie.close
     (tie.spec
-    returns returns-2 returns-3 returns-4)
+    Inv-loop μ-loop loop-holds (λ c. search needs) (λ c κs. search needs) (λ c. search needs) (λ c. search needs) loop-again returns)

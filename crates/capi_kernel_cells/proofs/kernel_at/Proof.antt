@@ -15,11 +15,29 @@ returns c = rw (lt-leb _ _ (c .before .if1 .taken)) (c .none .ensures)
 
 returns-2 : tie.Need-returns-2
 unfolding kernelAt ofBits
-returns-2 c = rw (le-leb _ _ (c .before .before .before .if1 .left), not-true (eq (cell (c .before .before .before .before .before .args .cells .now) 1) plusZero || eq (cell (c .before .before .before .before .before .args .cells .now) 1) one) (c .before .if2 .taken)) (c .none2 .ensures)
+returns-2 c =
+    let at-if1 = c .before .before .before in
+    let start = at-if1 .before .before in
+    rw (
+      le-leb _ _ (at-if1 .if1 .left),
+      not-true (eq (cell (start .args .cells .now) 1) plusZero
+          || eq (cell (start .args .cells .now) 1) one) (c .before .if2 .taken),
+    ) (c .none2 .ensures)
 
 returns-3 : tie.Need-returns-3
 unfolding kernelAt ofBits
-returns-3 c = rw (le-leb _ _ (c .before .before .before .before .before .before .if1 .left), not-false (eq (cell (c .before .before .before .before .before .before .before .before .args .cells .now) 1) plusZero || eq (cell (c .before .before .before .before .before .before .before .before .args .cells .now) 1) one) (c .before .before .before .before .if2 .left), c .before .before .count-at .ensures, c .before .volumes-at .ensures, c .rates-at .ensures)
+returns-3 c =
+    let at-if2 = c .before .before .before .before in
+    let at-if1 = at-if2 .before .before in
+    let start = at-if1 .before .before in
+    rw (
+      le-leb _ _ (at-if1 .if1 .left),
+      not-false (eq (cell (start .args .cells .now) 1) plusZero
+          || eq (cell (start .args .cells .now) 1) one) (at-if2 .if2 .left),
+      c .before .before .count-at .ensures,
+      c .before .volumes-at .ensures,
+      c .matrix-at .ensures,
+    )
 
 pub kernel-at-spec : {M : Type 1} → statement M
 kernel-at-spec =

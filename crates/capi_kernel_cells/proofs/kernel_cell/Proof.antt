@@ -20,11 +20,13 @@ returns-3 c = rw (ne-eqb _ _ (c .before .before .if1 .left), eq-eqb _ _ (c .befo
 
 returns-4 : tie.Need-returns-4
 unfolding kernelCell
-returns-4 c = rw (ne-eqb _ _ (c .before .before .before .if1 .left), ne-eqb _ _ (c .before .before .if2 .left), lt-ltb _ _ (c .before .if4 .taken))
+returns-4 c =
+    rw (ne-eqb _ _ (c .before .before .before .if1 .left), ne-eqb _ _ (c .before .before .if2 .left), lt-ltb _ _ (c .before .if4 .taken))
 
 returns-5 : tie.Need-returns-5
 unfolding kernelCell
-returns-5 c = rw (ne-eqb _ _ (c .before .before .before .if1 .left), ne-eqb _ _ (c .before .before .if2 .left), le-ltb _ _ (c .before .if4 .left))
+returns-5 c =
+    rw (ne-eqb _ _ (c .before .before .before .if1 .left), ne-eqb _ _ (c .before .before .if2 .left), le-ltb _ _ (c .before .if4 .left))
 
 pub kernel-cell-spec : {M : Type 1} → statement M
 kernel-cell-spec =

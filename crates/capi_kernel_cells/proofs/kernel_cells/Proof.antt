@@ -4,6 +4,7 @@ use borrow.Author.Needs.{needs}
 use native.Mathlib.Omega.{arith}
 use Prim.Native.Nat.{_≤_, _-_}
 use lib.Ieee.{ofBits}
+use Rattle.limits.specs.Limits.{kernelCells}
 use Rattle.binary64.specs.Doubles.{plusZero}
 use Rattle.matrix.proofs.Filled.{fill, fillFrom, fill-more, filled}
 use Rattle.capi_kernel_cells.specs.Writing.{kernelCell}
@@ -11,10 +12,10 @@ use Rattle.capi_kernel_cells.proofs.kernel_cells.Statement.{statement}
 use Rattle.capi_kernel_cells.proofs.kernel_cells.Tie as tie
 
 abbrev Inv-loop : tie.InvT-loop
-Inv-loop kernel cells₀ i₀ cells i = (i ≤ 21) × (cells ≡ fill 21 i (kernelCell kernel) plusZero)
+Inv-loop kernel cells₀ i₀ cells i = (i ≤ kernelCells) × (cells ≡ fill kernelCells i (kernelCell kernel) plusZero)
 
 abbrev μ-loop : tie.MeasureT-loop
-μ-loop kernel cells₀ i₀ cells i = 21 - i
+μ-loop kernel cells₀ i₀ cells i = kernelCells - i
 
 loop-holds : tie.Need-loop-holds Inv-loop μ-loop
 unfolding fill fillFrom ofBits

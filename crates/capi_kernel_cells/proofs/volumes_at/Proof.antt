@@ -4,6 +4,7 @@ use borrow.Author.Needs.{needs}
 use native.Mathlib.Omega.{arith}
 use Prim.Native.Nat.{_≤_, _-_, _+_}
 use lib.Ieee.{ofBits}
+use Rattle.limits.specs.Limits.{mostVolumes}
 use Rattle.binary64.specs.Doubles.{plusZero}
 use Rattle.matrix.proofs.Filled.{fill, fillFrom, fill-more, filled}
 use Rattle.matrix.specs.Matrix.{cell}
@@ -11,10 +12,10 @@ use Rattle.capi_kernel_cells.proofs.volumes_at.Statement.{statement}
 use Rattle.capi_kernel_cells.proofs.volumes_at.Tie as tie
 
 abbrev Inv-loop : tie.InvT-loop
-Inv-loop cells list₀ i₀ list i = (i ≤ 3) × (list ≡ fill 3 i (λ i. cell cells (i + 2)) plusZero)
+Inv-loop cells list₀ i₀ list i = (i ≤ mostVolumes) × (list ≡ fill mostVolumes i (λ i. cell cells (i + 2)) plusZero)
 
 abbrev μ-loop : tie.MeasureT-loop
-μ-loop cells list₀ i₀ list i = 3 - i
+μ-loop cells list₀ i₀ list i = mostVolumes - i
 
 loop-holds : tie.Need-loop-holds Inv-loop μ-loop
 unfolding fill fillFrom ofBits

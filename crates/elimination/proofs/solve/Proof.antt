@@ -22,19 +22,24 @@ loop-holds c = (omega arith, refl)
 
 returns : tie.Need-returns Inv-loop μ-loop
 returns c =
-    let s = c .before .before .before .before .before in
+    let at-row = c .before .before .before .before in
+    let s = at-row .before in
     let l = s .before .before in
     sym (solve-refused _ _ _ (l .before .least .ensures)
-    (column-refused _ _ _ _ _ _ _ (s .before .loop-test .taken) (l .loop .inv .1) (c .before .before .before .before .row .ensures) (c .before .before .at .ensures) (c .before .passes .ensures) (c .if1 .taken)))
+    (column-refused _ _ _ _ _ _ _ (s .before .loop-test .taken) (l .loop .inv .1) (at-row .row .ensures) (c .before .before .at .ensures)
+    (c .before .passes .ensures) (c .if1 .taken)))
 
 loop-again : tie.Need-loop-again Inv-loop μ-loop
 loop-again c =
-    let e = c .before .before .before .before .before .before in
+    let at-exchanged2 = c .before .before .before in
+    let at-exchanged = at-exchanged2 .before .before in
+    let e = at-exchanged .before in
     let s = e .before .before .before .before .before in
     let l = s .before .before in (
       omega arith,
-      column-more _ _ _ _ _ _ _ (s .before .loop-test .taken) (l .loop .inv .1) (e .before .before .before .before .row .ensures) _ _ (l .before .before .before .pre) (e .before .before .at .ensures) (e .before .passes .ensures) (e .if1 .left)
-          (c .before .before .before .before .before .exchanged .ensures) (c .before .before .before .exchanged2 .ensures) (c .before .before .reduced .ensures) (c .table .ensures),
+      column-more _ _ _ _ _ _ _ (s .before .loop-test .taken) (l .loop .inv .1) (e .before .before .before .before .row .ensures) _ _
+          (l .before .before .before .pre) (e .before .before .at .ensures) (e .before .passes .ensures) (e .if1 .left)
+          (at-exchanged .exchanged .ensures) (at-exchanged2 .exchanged2 .ensures) (c .before .before .reduced .ensures) (c .table .ensures),
     )
 
 returns-2 : tie.Need-returns-2 Inv-loop μ-loop

@@ -15,7 +15,8 @@ returns-2 c = rw (ne-eqb _ _ (c .before .before .if1 .left), eq-eqb _ _ (c .befo
 
 returns-3 : tie.Need-returns-3
 unfolding eventAt
-returns-3 c = rw (ne-eqb _ _ (c .before .before .before .if1 .left), ne-eqb _ _ (c .before .before .if2 .left))
+returns-3 c =
+    rw (ne-eqb _ _ (c .before .before .before .if1 .left), ne-eqb _ _ (c .before .before .if2 .left))
 
 pub event-at-spec : {M : Type 1} → statement M
 event-at-spec =

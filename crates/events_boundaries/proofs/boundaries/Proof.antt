@@ -9,13 +9,15 @@ use Rattle.events_boundaries.proofs.boundaries.Statement.{statement}
 use Rattle.events_boundaries.proofs.boundaries.Tie as tie
 
 slice-aggregate-sorted-unique : tie.Need-slice-aggregate-sorted-unique
-slice-aggregate-sorted-unique c = sym (length-take-le _ _ (c .before .before .before .lay .ensures .0))
+slice-aggregate-sorted-unique c =
+    sym (length-take-le _ _ (c .before .before .before .lay .ensures .0))
 
 returns : tie.Need-returns
 unfolding boundaries
 returns c =
+    let at-lay = c .before .before .before .before .before .before in
     let w = c .before .before .sorted-unique .ensures in
-    (simp length-append (omega arith), take-append-le _ _ _ (w .0) ∙ rw (c .before .before .before .before .before .before .lay .ensures .1) at (w .1), rw (c .before .before .before .before .before .before .lay .ensures .1) at (w .2))
+    (simp length-append (omega arith), take-append-le _ _ _ (w .0) ∙ rw (at-lay .lay .ensures .1) at (w .1), rw (at-lay .lay .ensures .1) at (w .2))
 
 pub boundaries-spec : {M : Type 1} → statement M
 boundaries-spec =

@@ -9,7 +9,9 @@ use Rattle.events_boundaries.proofs.lay.Statement.{statement}
 use Rattle.events_boundaries.proofs.lay.Tie as tie
 
 abbrev Inv-loop : tie.InvT-loop
-Inv-loop reals words count bounds₀ n₀ k₀ bounds n k = (k ≤ count) × (n ≤ 2 + 2 * k) × (length bounds ≡ length bounds₀) × (laid reals words count (take n bounds) k ≡ laid reals words count (take 2 bounds₀) 0)
+Inv-loop reals words count bounds₀ n₀ k₀ bounds n k =
+    (k ≤ count) × (n ≤ 2 + 2 * k) × (length bounds ≡ length bounds₀)
+    × (laid reals words count (take n bounds) k ≡ laid reals words count (take 2 bounds₀) 0)
 
 abbrev μ-loop : tie.MeasureT-loop
 μ-loop reals words count bounds₀ n₀ k₀ bounds n k = count - k
@@ -21,24 +23,42 @@ loop-holds : tie.Need-loop-holds Inv-loop μ-loop
 loop-holds c = (omega arith, omega arith, refl, refl)
 
 lay-event-requires : tie.Need-lay-event-requires Inv-loop μ-loop
-lay-event-requires c κs = let g = c .before .before .before .before .before .args in omega (arith, length-set (set (g .bounds .now) 0 (g .window .start)) 1 (g .window .end), length-set (g .bounds .now) 0 (g .window .start))
+lay-event-requires c κs =
+    let g = c .before .before .before .before .before .args in
+    omega (arith, length-set (set (g .bounds .now) 0 (g .window .start)) 1 (g .window .end), length-set (g .bounds .now) 0 (g .window .start))
 
 loop-again : tie.Need-loop-again Inv-loop μ-loop
 loop-again c =
-    let g = c .before .before .before .before .before .before .before .before .args in
-    let l = c .before .before .before .before .before .before .loop in
-    let w = c .before .before .lay-event .ensures in
-    (omega arith, omega arith, w .1 ∙ l .inv .2, laid-more (g .reals .now) (g .words .now) (g .count) (l .k) (take (l .n) (l .bounds)) (c .before .before .before .before .before .loop-test .taken) (rw (c .before .before .before .before .event-at .ensures) at (w .2)) (l .inv .3))
+    let at-event-at = c .before .before .before .before in
+    let at-loop-test = at-event-at .before in
+    let at-loop = at-loop-test .before in
+    let g = at-loop .before .before .args in
+    let l = at-loop .loop in
+    let w = c .before .before .lay-event .ensures in (
+      omega arith,
+      omega arith,
+      w .1 ∙ l .inv .2,
+      laid-more (g .reals .now) (g .words .now) (g .count) (l .k) (take (l .n) (l .bounds))
+          (at-loop-test .loop-test .taken) (rw (at-event-at .event-at .ensures) at (w .2)) (l .inv .3),
+    )
 
 same-length : tie.Need-same-length Inv-loop μ-loop
-same-length c = let g = c .before .before .before .args in omega (arith, c .before .loop .inv .2, length-set (set (g .bounds .now) 0 (g .window .start)) 1 (g .window .end), length-set (g .bounds .now) 0 (g .window .start))
+same-length c =
+    let g = c .before .before .before .args in
+    omega (
+      arith,
+      c .before .loop .inv .2,
+      length-set (set (g .bounds .now) 0 (g .window .start)) 1 (g .window .end),
+      length-set (g .bounds .now) 0 (g .window .start),
+    )
 
 returns : tie.Need-returns Inv-loop μ-loop
 returns c =
     let g = c .before .before .before .args in
     let l = c .before .loop in (
       omega (arith, length-set (set (g .bounds .now) 0 (g .window .start)) 1 (g .window .end), length-set (g .bounds .now) 0 (g .window .start)),
-      laid-all (g .reals .now) (g .words .now) (g .count) (g .window .start) (g .window .end) (l .k) (g .bounds .now) (c .loop-test .left) (omega arith) (l .inv .3),
+      laid-all (g .reals .now) (g .words .now) (g .count) (g .window .start) (g .window .end) (l .k) (g .bounds .now) (c .loop-test .left)
+          (omega arith) (l .inv .3),
     )
 
 pub lay-spec : {M : Type 1} → statement M

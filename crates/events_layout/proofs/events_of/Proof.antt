@@ -3,6 +3,7 @@ use mathlib.Core.Path.{_≡_}
 use borrow.Author.Needs.{needs}
 use native.Mathlib.Omega.{arith}
 use Prim.Native.Nat.{_≤_, _-_}
+use Rattle.limits.specs.Limits.{mostEvents}
 use Rattle.matrix.proofs.Filled.{fill, fillFrom, fill-more, filled}
 use Rattle.protocol.specs.Events.{noEvent}
 use Rattle.events_layout.specs.Layout.{eventOrNone}
@@ -10,10 +11,10 @@ use Rattle.events_layout.proofs.events_of.Statement.{statement}
 use Rattle.events_layout.proofs.events_of.Tie as tie
 
 abbrev Inv-loop : tie.InvT-loop
-Inv-loop words list₀ i₀ list i = (i ≤ 192) × (list ≡ fill 192 i (eventOrNone words) noEvent)
+Inv-loop words list₀ i₀ list i = (i ≤ mostEvents) × (list ≡ fill mostEvents i (eventOrNone words) noEvent)
 
 abbrev μ-loop : tie.MeasureT-loop
-μ-loop words list₀ i₀ list i = 192 - i
+μ-loop words list₀ i₀ list i = mostEvents - i
 
 loop-holds : tie.Need-loop-holds Inv-loop μ-loop
 unfolding fill fillFrom

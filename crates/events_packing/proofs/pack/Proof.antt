@@ -19,7 +19,9 @@ loop-holds : tie.Need-loop-holds Inv-loop μ-loop
 loop-holds c = (omega arith, packs-none _ _ (c .pre .1) (c .pre .2))
 
 loop-again : tie.Need-loop-again Inv-loop μ-loop
-loop-again c = (omega arith, packs-more _ _ _ (search needs) (c .before .before .before .before .before .loop .inv .1) (c .put .ensures))
+loop-again c =
+    let at-loop = c .before .before .before .before .before in
+    (omega arith, packs-more _ _ _ (search needs) (at-loop .loop .inv .1) (c .put .ensures))
 
 returns : tie.Need-returns Inv-loop μ-loop
 returns c = rw (le-antisymm (c .before .loop .inv .0) (c .loop-test .left)) at (c .before .loop .inv .1 .held)

@@ -4,7 +4,9 @@ use Rattle.events_words.proofs.put_event.Statement.{statement}
 use Rattle.events_words.proofs.put_event.Tie as tie
 
 returns : tie.Need-returns
-returns c = rw (c .before .before .before .before .before .words-of .ensures) at (c .before .before .put-words .ensures)
+returns c =
+    let at-words-of = c .before .before .before .before .before in
+    rw (at-words-of .words-of .ensures) at (c .before .before .put-words .ensures)
 
 pub put-event-spec : {M : Type 1} → statement M
 put-event-spec =

@@ -20,9 +20,10 @@ loop-holds c = (omega arith, refl, refl)
 
 loop-again : tie.Need-loop-again Inv-loop μ-loop
 loop-again c =
-    let g = c .before .before .before .args in
+    let start = c .before .before .before in
+    let g = start .args in
     let l = c .before .before .loop in
-    let k : l .i < length (g .words .now) = omega (arith, c .before .before .before .pre .1) in (
+    let k : l .i < length (g .words .now) = omega (arith, start .pre .1) in (
       omega arith,
       rw length-set (l .inv .1),
       rw (l .inv .2) (sets-take (g .out .now) (g .at) (g .words .now) (l .i) k),

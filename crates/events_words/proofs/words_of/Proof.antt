@@ -7,15 +7,20 @@ use Rattle.events_words.proofs.words_of.Tie as tie
 
 returns : tie.Need-returns
 unfolding eventWords
-returns c = rw (c .before .before .before .event .given .1, c .before .bits .ensures, c .bits2 .ensures) refl
+returns c =
+    rw (c .before .before .before .event .given .1, c .before .bits .ensures, c .bits2 .ensures) refl
 
 returns-2 : tie.Need-returns-2
 unfolding eventWords
-returns-2 c = rw (c .before .before .before .before .event2 .given .1, c .before .before .bits3 .ensures, c .before .bits4 .ensures, c .bits5 .ensures) refl
+returns-2 c =
+    let at-event2 = c .before .before .before .before in
+    rw (at-event2 .event2 .given .1, c .before .before .bits3 .ensures, c .before .bits4 .ensures, c .bits5 .ensures) refl
 
 returns-3 : tie.Need-returns-3
 unfolding eventWords
-returns-3 c = rw (c .before .before .before .before .event3 .given .1, c .before .before .bits6 .ensures, c .before .bits7 .ensures, c .flag .ensures) refl
+returns-3 c =
+    let at-event3 = c .before .before .before .before in
+    rw (at-event3 .event3 .given .1, c .before .before .bits6 .ensures, c .before .bits7 .ensures, c .flag .ensures) refl
 
 pub words-of-spec : {M : Type 1} → statement M
 words-of-spec =

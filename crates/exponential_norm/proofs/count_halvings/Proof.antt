@@ -7,35 +7,37 @@ use native.Mathlib.Nat.{sub-zero}
 use native.Mathlib.Numerals.{add-one}
 use borrow.Author.Tests.{not-true, not-false}
 use lib.Ieee.{ofBits}
-use Rattle.matrix.specs.Exponential.{halvings, countOf}
+use Rattle.matrix.specs.Exponential.{halvings, halvingCount}
 use Rattle.matrix.proofs.Halvings.{halvings-stop, halvings-go}
 use Rattle.exponential_norm.proofs.count_halvings.Statement.{statement}
 use Rattle.exponential_norm.proofs.count_halvings.Tie as tie
 
 abbrev Inv-loop : tie.InvT-loop
-Inv-loop norm threshold most left₀ n₀ left n = (n ≤ most) × (halvings threshold (suc (most - n)) n left ≡ countOf threshold most norm)
+Inv-loop norm threshold most left₀ n₀ left n = (n ≤ most) × (halvings threshold (suc (most - n)) n left ≡ halvingCount threshold most norm)
 
 abbrev μ-loop : tie.MeasureT-loop
 μ-loop norm threshold most left₀ n₀ left n = most - n
 
 returns : tie.Need-returns Inv-loop μ-loop
-unfolding countOf
+unfolding halvingCount
 returns c = rw (← c .before .is-finite .ensures, not-true (c .before .is-finite .result) (c .if1 .taken))
 
 loop-holds : tie.Need-loop-holds Inv-loop μ-loop
-unfolding countOf
+unfolding halvingCount
 loop-holds c = (omega arith, rw (← c .before .is-finite .ensures, not-false (c .before .is-finite .result) (c .if1 .left), sub-zero))
 
 returns-2 : tie.Need-returns-2 Inv-loop μ-loop
 unfolding halvings ofBits
 returns-2 c =
-    let e : c .before .before .before .before .before .args .most - c .before .before .loop .n ≡ 0 = omega arith in
+    let start = c .before .before .before .before .before in
+    let e : start .args .most - c .before .before .loop .n ≡ 0 = omega arith in
     sym (halvings-go _ 0 _ _ (not-false _ (c .before .if2 .left))) ∙ rw e at (c .before .before .loop .inv .1)
 
 loop-again : tie.Need-loop-again Inv-loop μ-loop
 unfolding ofBits
 loop-again c =
-    let e : suc (c .before .before .before .before .before .args .most - (c .before .before .loop .n + 1)) ≡ c .before .before .before .before .before .args .most - c .before .before .loop .n = omega arith in
+    let start = c .before .before .before .before .before in
+    let e : suc (start .args .most - (c .before .before .loop .n + 1)) ≡ start .args .most - c .before .before .loop .n = omega arith in
     (omega arith, rw (e, add-one) (sym (halvings-go _ _ _ _ (not-false _ (c .before .if2 .left))) ∙ c .before .before .loop .inv .1))
 
 returns-3 : tie.Need-returns-3 Inv-loop μ-loop

@@ -21,7 +21,9 @@ unfolding updated updatedFrom
 loop-holds c = (omega arith, refl)
 
 loop-again : tie.Need-loop-again Inv-loop μ-loop
-loop-again c = (omega arith, updated-more _ [] _ _ (c .before .before .before .before .loop .inv .1) (c .added .ensures))
+loop-again c =
+    let at-loop = c .before .before .before .before in
+    (omega arith, updated-more _ [] _ _ (at-loop .loop .inv .1) (c .added .ensures))
 
 returns : tie.Need-returns Inv-loop μ-loop
 returns c = updated-all _ _ _ _ (c .before .loop .inv .0) (c .loop-test .left) (c .before .loop .inv .1)

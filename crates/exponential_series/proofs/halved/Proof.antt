@@ -21,7 +21,9 @@ unfolding halvedTimes
 loop-holds c = (omega arith, record { width = c .pre .1; part = refl })
 
 loop-again : tie.Need-loop-again Inv-loop μ-loop
-loop-again c = (omega arith, halved-more _ (c .before .before .before .before .pre .0) _ _ (c .before .before .before .loop .inv .1) (c .halve .ensures))
+loop-again c =
+    let at-loop = c .before .before .before in
+    (omega arith, halved-more _ (at-loop .before .pre .0) _ _ (at-loop .loop .inv .1) (c .halve .ensures))
 
 returns : tie.Need-returns Inv-loop μ-loop
 returns c = rw (le-antisymm (c .before .loop .inv .0) (c .loop-test .left)) at (c .before .loop .inv .1)

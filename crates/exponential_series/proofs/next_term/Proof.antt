@@ -10,17 +10,19 @@ use Rattle.exponential_series.proofs.next_term.Statement.{statement}
 use Rattle.exponential_series.proofs.next_term.Tie as tie
 
 abbrev Inv-loop : tie.InvT-loop
-Inv-loop term₀ block m x i₀ term i = (i ≤ m) × (term ≡ updated i (λ i r. rowQuotient (rowTimes r block m) x) term₀)
+Inv-loop term₀ a m x i₀ term i = (i ≤ m) × (term ≡ updated i (λ i r. rowQuotient (rowTimes r a m) x) term₀)
 
 abbrev μ-loop : tie.MeasureT-loop
-μ-loop term₀ block m x i₀ term i = m - i
+μ-loop term₀ a m x i₀ term i = m - i
 
 loop-holds : tie.Need-loop-holds Inv-loop μ-loop
 unfolding updated updatedFrom
 loop-holds c = (omega arith, refl)
 
 loop-again : tie.Need-loop-again Inv-loop μ-loop
-loop-again c = (omega arith, updated-more _ [] _ _ (c .before .before .before .before .loop .inv .1) (rw (c .divided .ensures, c .before .times .ensures)))
+loop-again c =
+    let at-loop = c .before .before .before .before in
+    (omega arith, updated-more _ [] _ _ (at-loop .loop .inv .1) (rw (c .divided .ensures, c .before .times .ensures)))
 
 returns : tie.Need-returns Inv-loop μ-loop
 returns c = updated-all _ _ _ _ (c .before .loop .inv .0) (c .loop-test .left) (c .before .loop .inv .1)

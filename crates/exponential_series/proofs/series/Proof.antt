@@ -21,9 +21,11 @@ loop-holds c = (omega arith, c .identity .ensures, c .identity .ensures)
 
 loop-again : tie.Need-loop-again Inv-loop μ-loop
 loop-again c =
-    let s = c .before .before .before .before .before .before .before .before .before .before in
-    let l = c .before .before .before .before .before .before .before .before .loop in
-    let t = term-more (s .args .m) (s .pre) (l .k) (s .args .t1) (l .inv .1) (c .before .before .before .next-term .ensures) in
+    let at-next-term = c .before .before .before in
+    let at-loop = at-next-term .before .before .before .before .before in
+    let s = at-loop .before .before in
+    let l = at-loop .loop in
+    let t = term-more (s .args .m) (s .pre) (l .k) (s .args .t1) (l .inv .1) (at-next-term .next-term .ensures) in
     (omega arith, t, sum-more (s .args .m) (s .pre) (l .k) _ (l .inv .2) t (c .add-term .ensures))
 
 returns : tie.Need-returns Inv-loop μ-loop

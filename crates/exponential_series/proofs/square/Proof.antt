@@ -21,7 +21,8 @@ unfolding updated updatedFrom
 loop-holds c = (omega arith, refl)
 
 loop-again : tie.Need-loop-again Inv-loop μ-loop
-loop-again c = (omega arith, updated-more _ [] _ _ (c .before .before .before .loop .inv .1) (c .times .ensures))
+loop-again c =
+    (omega arith, updated-more _ [] _ _ (c .before .before .before .loop .inv .1) (c .times .ensures))
 
 returns : tie.Need-returns Inv-loop μ-loop
 returns c = updated-all _ _ _ _ (c .before .loop .inv .0) (c .loop-test .left) (c .before .loop .inv .1)

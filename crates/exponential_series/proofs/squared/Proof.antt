@@ -5,7 +5,8 @@ use native.Mathlib.Omega.{arith}
 use Prim.Native.Nat.{_≤_, _-_, _+_, _%_}
 use mathlib.Core.Logic.{⊎-elim}
 use lib.ListN.{length}
-use Rattle.matrix.specs.Arrays.{Holds, lead, block}
+use Rattle.limits.specs.Limits.{block}
+use Rattle.matrix.specs.Arrays.{Holds, lead}
 use Rattle.matrix.specs.Exponential.{squarings}
 use Rattle.matrix.proofs.Steps.{squared-once, squared-twice}
 use Rattle.exponential_series.proofs.squared.Statement.{statement}
@@ -32,8 +33,11 @@ loop-holds c =
 
 loop-again : tie.Need-loop-again Inv-loop μ-loop
 loop-again c =
-    let l = c .before .before .before .before .before .before .before .loop in
-    let w = squared-twice _ (c .before .before .before .before .before .before .before .before .before .pre .0) _ (l .k) _ (l .next) (l .inv .1) (l .inv .2) (c .before .before .before .square2 .ensures) (c .square3 .ensures) in
+    let at-square2 = c .before .before .before in
+    let at-loop = at-square2 .before .before .before .before in
+    let l = at-loop .loop in
+    let w = squared-twice _ (at-loop .before .before .pre .0) _ (l .k) _ (l .next) (l .inv .1) (l .inv .2) (at-square2 .square2 .ensures)
+    (c .square3 .ensures) in
     (omega arith, w .0, w .1)
 
 returns : tie.Need-returns Inv-loop μ-loop

@@ -5,7 +5,11 @@ use Rattle.fold.proofs.folded_list.Statement.{statement}
 use Rattle.fold.proofs.folded_list.Tie as tie
 
 returns : tie.Need-returns
-returns c = rw (← c .before .before .before .before .before .before .before .before .pack .ensures) (packed-answer (c .before .before .before .folded .result .reply) _ _ _ (c .before .before .before .folded .ensures .1 .1 .0) (c .before .before .before .folded .ensures .0) (c .before .before .before .folded .ensures .1 .0) (c .list-of .ensures))
+returns c =
+    let at-folded = c .before .before .before in
+    let at-pack = at-folded .before .before .before .before .before in
+    rw (← at-pack .pack .ensures) (packed-answer (at-folded .folded .result .reply) _ _ _ (at-folded .folded .ensures .1 .1 .0)
+    (at-folded .folded .ensures .0) (at-folded .folded .ensures .1 .0) (c .list-of .ensures))
 
 pub folded-list-spec : {M : Type 1} → statement M
 folded-list-spec =

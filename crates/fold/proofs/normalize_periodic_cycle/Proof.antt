@@ -12,10 +12,22 @@ returns-2 : tie.Need-returns-2
 returns-2 c = rw (over-samples _ _ _ _ _ (le-leb _ _ (c .before .before .if1 .left)) (lt-leb _ _ (c .before .if2 .taken))) (c .refused-cycle2 .ensures)
 
 returns-3 : tie.Need-returns-3
-returns-3 c = rw (kernel-refused _ _ _ _ _ (le-leb _ _ (c .before .before .before .before .before .before .if1 .left)) (le-leb _ _ (c .before .before .before .before .before .if2 .left)) (rw (c .before .before .sound .given .1) at (c .before .before .before .before .check .ensures))) (c .refused-cycle3 .ensures)
+returns-3 c =
+    let at-check = c .before .before .before .before in
+    let at-if2 = at-check .before in
+    rw (kernel-refused _ _ _ _ _ (le-leb _ _ (at-if2 .before .if1 .left)) (le-leb _ _ (at-if2 .if2 .left))
+    (rw (c .before .before .sound .given .1) at (at-check .check .ensures))) (c .refused-cycle3 .ensures)
 
 returns-4 : tie.Need-returns-4
-returns-4 c = rw (entry-folds _ _ _ _ _ (le-leb _ _ (c .before .before .before .before .before .before .if1 .left)) (le-leb _ _ (c .before .before .before .before .before .if2 .left)) (rw (c .before .before .enum-told .given .1) at (c .before .before .before .before .check .ensures)), ← c .before .state-count .ensures .0) (c .folded-list .ensures)
+returns-4 c =
+    let at-check = c .before .before .before .before in
+    let at-if2 = at-check .before in
+    rw (
+      entry-folds _ _ _ _ _ (le-leb _ _ (at-if2 .before .if1 .left)) (le-leb _ _ (at-if2 .if2 .left))
+          (rw (c .before .before .enum-told .given .1) at (at-check .check .ensures)),
+      ← c .before .state-count .ensures .0,
+    ) (c .folded-list
+    .ensures)
 
 pub normalize-periodic-cycle-spec : {M : Type 1} → statement M
 normalize-periodic-cycle-spec =

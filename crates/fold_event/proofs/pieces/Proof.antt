@@ -6,13 +6,17 @@ use Rattle.fold_event.proofs.pieces.Statement.{statement}
 use Rattle.fold_event.proofs.pieces.Tie as tie
 
 returns : tie.Need-returns
-returns c = replies-same _ _ _ (c .copied .ensures) (bolus-copied _ _ _ (c .before .before .before .enum-told .given .1))
+returns c =
+    replies-same _ _ _ (c .copied .ensures) (bolus-copied _ _ _ (c .before .before .before .enum-told .given .1))
 
 returns-2 : tie.Need-returns-2
-returns-2 c = rw (c .before .before .before .before .event .given .1) (c .infusion .ensures)
+returns-2 c =
+    let at-event = c .before .before .before .before in
+    rw (at-event .event .given .1) (c .infusion .ensures)
 
 returns-3 : tie.Need-returns-3
-returns-3 c = replies-same _ _ _ (c .copied2 .ensures) (reset-copied _ _ _ (c .before .before .before .enum-told2 .given .1))
+returns-3 c =
+    replies-same _ _ _ (c .copied2 .ensures) (reset-copied _ _ _ (c .before .before .before .enum-told2 .given .1))
 
 pub pieces-spec : {M : Type 1} → statement M
 pieces-spec =

@@ -6,7 +6,8 @@ use Rattle.fold_events.proofs.cycle_passes.Tie as tie
 
 returns : tie.Need-returns
 unfolding cyclePasses
-returns c = rw (c .before .before .before .is-finite .ensures, c .before .before .is-finite2 .ensures, c .is-positive .ensures)
+returns c =
+    rw (c .before .before .before .is-finite .ensures, c .before .before .is-finite2 .ensures, c .is-positive .ensures)
 
 pub cycle-passes-spec : {M : Type 1} → statement M
 cycle-passes-spec =

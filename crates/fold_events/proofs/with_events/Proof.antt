@@ -18,13 +18,23 @@ loop-holds : tie.Need-loop-holds Inv-loop μ-loop
 loop-holds c = going-start _ _ _ _ _ _ (c .pre .1) (c .pre .2)
 
 returns : tie.Need-returns Inv-loop μ-loop
-returns c = let f = c .before .before .before .before .with-event .ensures in folds-refused _ _ _ (c .before .before .reply .given .0 .0) (f .reals) (f .words) (c .refused .ensures) (going-refused _ _ _ _ (c .before .before .before .before .before .before .before .before .loop .inv) (c .before .before .before .before .before .before .before .loop-test .taken) f (c .before .before .reply .given .0 .0) (c .before .before .reply .given .1))
+returns c =
+    let at-with-event = c .before .before .before .before in
+    let at-loop-test = at-with-event .before .before .before in
+    let f = at-with-event .with-event .ensures in
+    folds-refused _ _ _ (c .before .before .reply .given .0 .0) (f .reals) (f .words) (c .refused .ensures)
+    (going-refused _ _ _ _ (at-loop-test .before .loop .inv) (at-loop-test .loop-test .taken) f (c .before .before .reply .given .0 .0)
+    (c .before .before .reply .given .1))
 
 loop-again : tie.Need-loop-again Inv-loop μ-loop
-loop-again c = going-more _ _ _ _ (c .before .before .before .before .before .before .loop .inv) (c .before .before .before .before .before .loop-test .taken) (c .before .before .with-event .ensures) (c .enum-told .given .1)
+loop-again c =
+    let at-loop-test = c .before .before .before .before .before in
+    going-more _ _ _ _ (at-loop-test .before .loop .inv) (at-loop-test .loop-test .taken) (c .before .before .with-event .ensures) (c .enum-told .given .1)
 
 returns-2 : tie.Need-returns-2 Inv-loop μ-loop
-returns-2 c = let g = c .before .loop .inv in folds-done _ _ _ _ (g .reals) (g .words) refl (omega (arith, g .room, g .below)) (going-done _ _ _ _ g (c .loop-test .left))
+returns-2 c = let g =
+    c .before .loop .inv in folds-done _ _ _ _ (g .reals) (g .words) refl (omega (arith, g .room, g .below))
+    (going-done _ _ _ _ g (c .loop-test .left))
 
 pub with-events-spec : {M : Type 1} → statement M
 with-events-spec =

@@ -9,7 +9,11 @@ use Rattle.fold_infusion.proofs.parts.Tie as tie
 
 returns : tie.Need-returns
 unfolding ofBits
-returns c = append-same _ _ _ (append-two _ _ _ (c .before .before .before .push-piece .ensures) (c .tail .ensures)) (parts-some _ _ _ _ _ (c .before .before .before .before .before .before .before .before .if1 .taken) (c .before .before .before .before .before .before .min .ensures)) 2 (omega arith)
+returns c =
+    let at-push-piece = c .before .before .before in
+    let at-min = at-push-piece .before .before .before in
+    append-same _ _ _ (append-two _ _ _ (at-push-piece .push-piece .ensures) (c .tail .ensures))
+    (parts-some _ _ _ _ _ (at-min .before .before .if1 .taken) (at-min .min .ensures)) 2 (omega arith)
 
 returns-2 : tie.Need-returns-2
 unfolding ofBits

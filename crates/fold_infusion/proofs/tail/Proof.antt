@@ -7,7 +7,8 @@ use Rattle.fold_infusion.proofs.tail.Tie as tie
 
 returns : tie.Need-returns
 unfolding ofBits
-returns c = rw (c .before .before .before .if1 .taken) (c .push-piece .ensures)
+returns c =
+    rw (c .before .before .before .if1 .taken) (c .push-piece .ensures)
 
 returns-2 : tie.Need-returns-2
 unfolding ofBits

@@ -4,6 +4,7 @@ use borrow.Author.Needs.{needs}
 use native.Mathlib.Omega.{arith}
 use Prim.Native.Nat.{_≤_, _-_}
 use lib.ListN.{getD}
+use Rattle.limits.specs.Limits.{mostEvents}
 use Rattle.matrix.proofs.Filled.{fill, fillFrom, fill-more, filled as all-filled}
 use Rattle.protocol.specs.Events.{noEvent}
 use Rattle.events.specs.Packed.{packed}
@@ -12,17 +13,19 @@ use Rattle.fold_list.proofs.list_of.Statement.{statement}
 use Rattle.fold_list.proofs.list_of.Tie as tie
 
 abbrev Inv-loop : tie.InvT-loop
-Inv-loop reals words count list₀ i₀ list i = (i ≤ 192) × (list ≡ fill 192 i (λ i. record { event = getD (packed reals words count) i noEvent }) (record { event = noEvent }))
+Inv-loop reals words count list₀ i₀ list i =
+    (i ≤ mostEvents) × (list ≡ fill mostEvents i (λ i. record { event = getD (packed reals words count) i noEvent })
+    (record { event = noEvent }))
 
 abbrev μ-loop : tie.MeasureT-loop
-μ-loop reals words count list₀ i₀ list i = 192 - i
+μ-loop reals words count list₀ i₀ list i = mostEvents - i
 
 loop-holds : tie.Need-loop-holds Inv-loop μ-loop
 unfolding fill fillFrom
 loop-holds c = (omega arith, rw (c .no-event .ensures))
 
 loop-again : tie.Need-loop-again Inv-loop μ-loop
-loop-again c = (omega arith, fill-more _ _ _ _ (c .before .before .loop .inv .1) (c .listed-at .ensures) (omega arith))
+loop-again c = (omega arith, fill-more _ _ _ _ (c .before .before .loop .inv .1) (c .place-at .ensures) (omega arith))
 
 returns : tie.Need-returns Inv-loop μ-loop
 unfolding filled

@@ -12,7 +12,8 @@ use Rattle.fold_stop.proofs.has_stop.Statement.{statement}
 use Rattle.fold_stop.proofs.has_stop.Tie as tie
 
 abbrev Inv-loop : tie.InvT-loop
-Inv-loop target reals words count found₀ k₀ found k = (k ≤ count) × (found || anyFrom reals words count (stopping target) k ≡ any (stopping target) (packed reals words count))
+Inv-loop target reals words count found₀ k₀ found k =
+    (k ≤ count) × (found || anyFrom reals words count (stopping target) k ≡ any (stopping target) (packed reals words count))
 
 abbrev μ-loop : tie.MeasureT-loop
 μ-loop target reals words count found₀ k₀ found k = count - k
@@ -21,7 +22,12 @@ loop-holds : tie.Need-loop-holds Inv-loop μ-loop
 loop-holds c = (omega arith, any-start _ _ _ _)
 
 loop-again : tie.Need-loop-again Inv-loop μ-loop
-loop-again c = (omega arith, any-more _ _ _ _ (c .before .before .before .loop .k) (c .before .before .before .loop .found) (c .before .before .loop-test .taken) (rw (c .before .event-at .ensures) at (c .stopping .ensures)) (c .before .before .before .loop .inv .1))
+loop-again c =
+    let at-loop = c .before .before .before in (
+      omega arith,
+      any-more _ _ _ _ (at-loop .loop .k) (at-loop .loop .found) (c .before .before .loop-test .taken)
+          (rw (c .before .event-at .ensures) at (c .stopping .ensures)) (at-loop .loop .inv .1),
+    )
 
 returns : tie.Need-returns Inv-loop μ-loop
 returns c = any-done _ _ _ _ (c .before .loop .k) (c .before .loop .found) (c .loop-test .left) (c .before .loop .inv .1)

@@ -10,7 +10,8 @@ use Rattle.fold_stop.proofs.stop_of.Statement.{statement}
 use Rattle.fold_stop.proofs.stop_of.Tie as tie
 
 abbrev Inv-loop : tie.InvT-loop
-Inv-loop period time target until reals words count stop₀ k₀ stop k = (k ≤ count) × (stopFrom reals words count period time target k stop ≡ stopOf period time target until (packed reals words count))
+Inv-loop period time target until reals words count stop₀ k₀ stop k =
+    (k ≤ count) × (stopFrom reals words count period time target k stop ≡ stopOf period time target until (packed reals words count))
 
 abbrev μ-loop : tie.MeasureT-loop
 μ-loop period time target until reals words count stop₀ k₀ stop k = count - k
@@ -19,7 +20,12 @@ loop-holds : tie.Need-loop-holds Inv-loop μ-loop
 loop-holds c = (omega arith, stop-start _ _ _ _ _ _ _)
 
 loop-again : tie.Need-loop-again Inv-loop μ-loop
-loop-again c = (omega arith, stop-more _ _ _ _ _ _ (c .before .before .before .loop .k) (c .before .before .before .loop .stop) (c .before .before .loop-test .taken) (rw (c .before .event-at .ensures) at (c .stopped-by .ensures)) (c .before .before .before .loop .inv .1))
+loop-again c =
+    let at-loop = c .before .before .before in (
+      omega arith,
+      stop-more _ _ _ _ _ _ (at-loop .loop .k) (at-loop .loop .stop) (c .before .before .loop-test .taken)
+          (rw (c .before .event-at .ensures) at (c .stopped-by .ensures)) (at-loop .loop .inv .1),
+    )
 
 returns : tie.Need-returns Inv-loop μ-loop
 returns c = stop-done _ _ _ _ _ _ (c .before .loop .k) (c .before .loop .stop) (c .loop-test .left) (c .before .loop .inv .1)

@@ -5,7 +5,10 @@ use Rattle.fold_stop.proofs.stopped_by.Statement.{statement}
 use Rattle.fold_stop.proofs.stopped_by.Tie as tie
 
 returns : tie.Need-returns
-returns c = rw (← c .before .before .before .before .stopping .ensures, c .before .before .before .if1 .taken) (rw (c .before .next-time .ensures, c .before .before .time-of .ensures) at (c .earlier .ensures))
+returns c =
+    let at-if1 = c .before .before .before in
+    rw (← at-if1 .before .stopping .ensures, at-if1 .if1 .taken) (rw (c .before .next-time .ensures, c .before .before .time-of .ensures) at
+    (c .earlier .ensures))
 
 returns-2 : tie.Need-returns-2
 returns-2 c = rw (← c .before .stopping .ensures, c .if1 .left)

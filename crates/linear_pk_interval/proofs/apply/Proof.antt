@@ -16,13 +16,37 @@ slice-aggregate-after : tie.Need-slice-aggregate-after
 slice-aggregate-after c = sym (ap length (c .before .amounts-after .ensures) ∙ tabulate-length _ _)
 
 returns-2 : tie.Need-returns-2
-returns-2 c = rw (applied-at _ _ _ _ _ (c .before .before .before .before .before .inputs-finite .ensures) (c .before .before .before .amounts-after .ensures) (c .before .all-pass .ensures), not-false (c .before .before .before .before .before .inputs-finite .result) (c .before .before .before .before .if1 .left), not-true (c .before .all-pass .result) (c .if2 .taken)) (refl, refl)
+returns-2 c =
+    let at-amounts-after = c .before .before .before in
+    let at-if1 = at-amounts-after .before in
+    let at-inputs-finite = at-if1 .before in
+    rw (
+      applied-at _ _ _ _ _ (at-inputs-finite .inputs-finite .ensures) (at-amounts-after .amounts-after .ensures)
+          (c .before .all-pass .ensures),
+      not-false (at-inputs-finite .inputs-finite .result) (at-if1 .if1 .left),
+      not-true
+          (c .before .all-pass .result) (c .if2 .taken),
+    ) (refl, refl)
 
 lay-requires : tie.Need-lay-requires
-lay-requires c κs = omega (arith, ap length (c .before .before .before .before .amounts-after .ensures) ∙ tabulate-length _ _)
+lay-requires c κs =
+    let at-amounts-after = c .before .before .before .before in
+    omega (arith, ap length (at-amounts-after .amounts-after .ensures) ∙ tabulate-length _ _)
 
 returns-3 : tie.Need-returns-3
-returns-3 c = rw (applied-at _ _ _ _ _ (c .before .before .before .before .before .before .before .before .before .inputs-finite .ensures) (c .before .before .before .before .before .before .before .amounts-after .ensures) (c .before .before .before .before .before .all-pass .ensures), not-false (c .before .before .before .before .before .before .before .before .before .inputs-finite .result) (c .before .before .before .before .before .before .before .before .if1 .left), not-false (c .before .before .before .before .before .all-pass .result) (c .before .before .before .before .if2 .left)) (refl, c .before .before .lay .ensures)
+returns-3 c =
+    let at-if2 = c .before .before .before .before in
+    let at-all-pass = at-if2 .before in
+    let at-amounts-after = at-all-pass .before .before in
+    let at-if1 = at-amounts-after .before in
+    let at-inputs-finite = at-if1 .before in
+    rw (
+      applied-at _ _ _ _ _ (at-inputs-finite .inputs-finite .ensures) (at-amounts-after .amounts-after .ensures)
+          (at-all-pass .all-pass .ensures),
+      not-false (at-inputs-finite .inputs-finite .result) (at-if1 .if1 .left),
+      not-false
+          (at-all-pass .all-pass .result) (at-if2 .if2 .left),
+    ) (refl, c .before .before .lay .ensures)
 
 pub apply-spec : {M : Type 1} → statement M
 apply-spec =

@@ -17,7 +17,8 @@ loop-holds : tie.Need-loop-holds Inv-loop μ-loop
 loop-holds c = laying-start _ _
 
 loop-again : tie.Need-loop-again Inv-loop μ-loop
-loop-again c = laying-more _ _ nan _ (c .before .before .before .pre) (c .before .before .loop .inv) (c .before .loop-test .taken)
+loop-again c =
+    laying-more _ _ nan _ (c .before .before .before .pre) (c .before .before .loop .inv) (c .before .loop-test .taken)
 
 returns : tie.Need-returns Inv-loop μ-loop
 returns c = laying-done _ _ _ (c .loop-test .left) (c .before .loop .inv)

@@ -4,6 +4,7 @@ use borrow.Author.Needs.{needs}
 use native.Mathlib.Omega.{arith}
 use Prim.Native.Nat.{_≤_, _-_}
 use lib.Ieee.{ofBits}
+use Rattle.limits.specs.Limits.{mostVolumes}
 use Rattle.binary64.specs.Doubles.{plusZero}
 use Rattle.linear_pk_mammillary.specs.Rates.{padded, paddedCell}
 use Rattle.matrix.proofs.Filled.{fill, fillFrom, fill-more, filled}
@@ -11,10 +12,10 @@ use Rattle.linear_pk_mammillary.proofs.padded_volumes.Statement.{statem
 use Rattle.linear_pk_mammillary.proofs.padded_volumes.Tie as tie
 
 abbrev Inv-loop : tie.InvT-loop
-Inv-loop volumes list₀ i₀ list i = (i ≤ 3) × (list ≡ fill 3 i (paddedCell volumes) plusZero)
+Inv-loop volumes list₀ i₀ list i = (i ≤ mostVolumes) × (list ≡ fill mostVolumes i (paddedCell volumes) plusZero)
 
 abbrev μ-loop : tie.MeasureT-loop
-μ-loop volumes list₀ i₀ list i = 3 - i
+μ-loop volumes list₀ i₀ list i = mostVolumes - i
 
 loop-holds : tie.Need-loop-holds Inv-loop μ-loop
 unfolding fill fillFrom ofBits

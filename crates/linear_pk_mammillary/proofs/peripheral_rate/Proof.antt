@@ -9,7 +9,8 @@ returns : tie.Need-returns
 returns c = rw (eq-eqb _ _ (c .before .before .if1 .taken))
 
 returns-2 : tie.Need-returns-2
-returns-2 c = rw (ne-eqb _ _ (c .before .before .before .if1 .left), eq-eqb _ _ (c .before .before .if2 .taken))
+returns-2 c =
+    rw (ne-eqb _ _ (c .before .before .before .if1 .left), eq-eqb _ _ (c .before .before .if2 .taken))
 
 returns-3 : tie.Need-returns-3
 unfolding ofBits

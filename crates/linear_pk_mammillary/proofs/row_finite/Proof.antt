@@ -12,10 +12,10 @@ use Rattle.linear_pk_mammillary.proofs.row_finite.Statement.{statement}
 use Rattle.linear_pk_mammillary.proofs.row_finite.Tie as tie
 
 abbrev Inv-loop : tie.InvT-loop
-Inv-loop rates n i ok₀ j₀ ok j = (j ≤ n) × (ok ≡ allTo (λ j. finite (entry rates i j)) j)
+Inv-loop matrix n i ok₀ j₀ ok j = (j ≤ n) × (ok ≡ allTo (λ j. finite (entry matrix i j)) j)
 
 abbrev μ-loop : tie.MeasureT-loop
-μ-loop rates n i ok₀ j₀ ok j = n - j
+μ-loop matrix n i ok₀ j₀ ok j = n - j
 
 loop-holds : tie.Need-loop-holds Inv-loop μ-loop
 unfolding allTo
@@ -23,7 +23,8 @@ loop-holds c = (omega arith, refl)
 
 loop-again : tie.Need-loop-again Inv-loop μ-loop
 unfolding allTo
-loop-again c = (omega arith, rw (add-one, c .is-finite .ensures, c .before .entry .ensures, c .before .before .before .loop .inv .1))
+loop-again c =
+    (omega arith, rw (add-one, c .is-finite .ensures, c .before .entry .ensures, c .before .before .before .loop .inv .1))
 
 returns : tie.Need-returns Inv-loop μ-loop
 returns c = rw (le-antisymm (c .before .loop .inv .0) (c .loop-test .left)) at (c .before .loop .inv .1)

@@ -12,10 +12,10 @@ use Rattle.linear_pk_propagator.proofs.amount.Statement.{statement}
 use Rattle.linear_pk_propagator.proofs.amount.Tie as tie
 
 abbrev Inv-loop : tie.InvT-loop
-Inv-loop p n amounts input duration i sum₀ j₀ sum j = (j ≤ n) × (sum ≡ amountTo p n amounts input duration i j)
+Inv-loop p n amounts rates duration i sum₀ j₀ sum j = (j ≤ n) × (sum ≡ amountTo p n amounts rates duration i j)
 
 abbrev μ-loop : tie.MeasureT-loop
-μ-loop p n amounts input duration i sum₀ j₀ sum j = n - j
+μ-loop p n amounts rates duration i sum₀ j₀ sum j = n - j
 
 loop-holds : tie.Need-loop-holds Inv-loop μ-loop
 unfolding sumTo amountTo ofBits neg
@@ -23,7 +23,9 @@ loop-holds c = (omega arith, refl)
 
 loop-again : tie.Need-loop-again Inv-loop μ-loop
 unfolding sumTo amountTo
-loop-again c = (omega arith, rw (add-one, c .before .before .before .before .before .loop .inv .1))
+loop-again c =
+    let at-loop = c .before .before .before .before .before in
+    (omega arith, rw (add-one, at-loop .loop .inv .1))
 
 returns : tie.Need-returns Inv-loop μ-loop
 returns c = rw (le-antisymm (c .before .loop .inv .0) (c .loop-test .left)) at (c .before .loop .inv .1)

@@ -4,6 +4,7 @@ use borrow.Author.Needs.{needs}
 use native.Mathlib.Omega.{arith}
 use Prim.Native.Nat.{_≤_, _-_}
 use lib.Ieee.{ofBits}
+use Rattle.limits.specs.Limits.{states}
 use Rattle.binary64.specs.Doubles.{plusZero}
 use Rattle.linear_pk_propagator.specs.Amounts.{amountTo}
 use Rattle.matrix.proofs.Filled.{fill, fillFrom, fill-more, part-filled}
@@ -11,10 +12,10 @@ use Rattle.linear_pk_propagator.proofs.amounts_after.Statement.{stateme
 use Rattle.linear_pk_propagator.proofs.amounts_after.Tie as tie
 
 abbrev Inv-loop : tie.InvT-loop
-Inv-loop p n amounts input duration list₀ i₀ list i = (i ≤ n) × (list ≡ fill 4 i (λ i. amountTo p n amounts input duration i n) plusZero)
+Inv-loop p n amounts rates duration list₀ i₀ list i = (i ≤ n) × (list ≡ fill states i (λ i. amountTo p n amounts rates duration i n) plusZero)
 
 abbrev μ-loop : tie.MeasureT-loop
-μ-loop p n amounts input duration list₀ i₀ list i = n - i
+μ-loop p n amounts rates duration list₀ i₀ list i = n - i
 
 loop-holds : tie.Need-loop-holds Inv-loop μ-loop
 unfolding fill fillFrom ofBits
@@ -24,7 +25,9 @@ loop-again : tie.Need-loop-again Inv-loop μ-loop
 loop-again c = (omega arith, fill-more _ _ _ _ (c .before .before .loop .inv .1) (c .amount .ensures) (omega arith))
 
 returns : tie.Need-returns Inv-loop μ-loop
-returns c = part-filled _ _ _ _ _ (c .before .loop .inv .0) (c .loop-test .left) (c .before .before .before .before .pre .0) (c .before .loop .inv .1)
+returns c =
+    let start = c .before .before .before .before in
+    part-filled _ _ _ _ _ (c .before .loop .inv .0) (c .loop-test .left) (start .pre .0) (c .before .loop .inv .1)
 
 pub amounts-after-spec : {M : Type 1} → statement M
 amounts-after-spec =

@@ -4,6 +4,7 @@ use borrow.Author.Needs.{needs}
 use native.Mathlib.Omega.{arith}
 use Prim.Native.Nat.{_≤_, _-_}
 use lib.Ieee.{ofBits}
+use Rattle.limits.specs.Limits.{block}
 use Rattle.binary64.specs.Doubles.{plusZero}
 use Rattle.linear_pk_propagator.specs.Propagator.{blockCell}
 use Rattle.matrix.proofs.Filled.{fill, fillFrom, fill-more, filled}
@@ -11,10 +12,10 @@ use Rattle.linear_pk_propagator.proofs.block_row.Statement.{statement}
 use Rattle.linear_pk_propagator.proofs.block_row.Tie as tie
 
 abbrev Inv-loop : tie.InvT-loop
-Inv-loop rates n duration i row₀ j₀ row j = (j ≤ 8) × (row ≡ fill 8 j (blockCell n rates duration i) plusZero)
+Inv-loop matrix n duration i row₀ j₀ row j = (j ≤ block) × (row ≡ fill block j (blockCell n matrix duration i) plusZero)
 
 abbrev μ-loop : tie.MeasureT-loop
-μ-loop rates n duration i row₀ j₀ row j = 8 - j
+μ-loop matrix n duration i row₀ j₀ row j = block - j
 
 loop-holds : tie.Need-loop-holds Inv-loop μ-loop
 unfolding fill fillFrom ofBits

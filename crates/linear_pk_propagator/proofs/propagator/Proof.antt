@@ -6,7 +6,7 @@ use Rattle.linear_pk_propagator.proofs.propagator.Tie as tie
 
 returns : tie.Need-returns
 unfolding propagator
-returns c = rw (← c .before .before .block .ensures .part) (c .exponential .ensures)
+returns c = rw (← c .before .before .block-of .ensures .part) (c .exponential .ensures)
 
 pub propagator-spec : {M : Type 1} → statement M
 propagator-spec =

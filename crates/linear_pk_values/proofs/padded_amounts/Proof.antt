@@ -4,6 +4,7 @@ use borrow.Author.Needs.{needs}
 use native.Mathlib.Omega.{arith}
 use Prim.Native.Nat.{_≤_, _-_}
 use lib.Ieee.{ofBits}
+use Rattle.limits.specs.Limits.{states}
 use Rattle.binary64.specs.Doubles.{plusZero}
 use Rattle.linear_pk_mammillary.specs.Rates.{padded, paddedCell}
 use Rattle.matrix.proofs.Filled.{fill, fillFrom, fill-more, filled}
@@ -11,10 +12,10 @@ use Rattle.linear_pk_values.proofs.padded_amounts.Statement.{statement}
 use Rattle.linear_pk_values.proofs.padded_amounts.Tie as tie
 
 abbrev Inv-loop : tie.InvT-loop
-Inv-loop amounts list₀ i₀ list i = (i ≤ 4) × (list ≡ fill 4 i (paddedCell amounts) plusZero)
+Inv-loop amounts list₀ i₀ list i = (i ≤ states) × (list ≡ fill states i (paddedCell amounts) plusZero)
 
 abbrev μ-loop : tie.MeasureT-loop
-μ-loop amounts list₀ i₀ list i = 4 - i
+μ-loop amounts list₀ i₀ list i = states - i
 
 loop-holds : tie.Need-loop-holds Inv-loop μ-loop
 unfolding fill fillFrom ofBits

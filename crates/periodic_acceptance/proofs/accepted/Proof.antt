@@ -21,22 +21,32 @@ returns c =
     let e = c .not-accepted .ensures in
     let g = c .before .before .before .before .args in
     rw (e .0, e .1)
-    (candidate-stops (propagatorOf (g .kernel)) (g .n) (g .window) (g .tolerance) (packed (g .reals .now) (g .words .now) (g .count)) (take (g .n) (g .t8)) (sym (c .before .before .all-pass .ensures) ∙ not-true (c .before .before .all-pass .result) (c .before .if1 .taken)))
+    (candidate-stops (propagatorOf (g .kernel)) (g .n) (g .window) (g .tolerance) (packed (g .reals .now) (g .words .now) (g .count))
+    (take (g .n) (g .t8)) (sym (c .before .before .all-pass .ensures)
+    ∙ not-true (c .before .before .all-pass .result) (c .before .if1 .taken)))
 
 returns-2 : tie.Need-returns-2
 returns-2 c =
+    let at-last-of = c .before .before .before .before in
+    let at-if1 = at-last-of .before in
+    let at-all-pass = at-if1 .before in
     let e = c .not-accepted2 .ensures in
-    let g = c .before .before .before .before .before .before .before .before .args in
+    let g = at-all-pass .before .before .args in
     rw (e .0, e .1)
-    (run-stops (propagatorOf (g .kernel)) (g .n) (g .window) (g .tolerance) (packed (g .reals .now) (g .words .now) (g .count)) (take (g .n) (g .t8)) (sym (c .before .before .before .before .before .before .all-pass .ensures) ∙ not-false (c .before .before .before .before .before .before .all-pass .result) (c .before .before .before .before .before .if1 .left))
-    (rw (c .before .before .reply .given .1) at (c .before .before .before .before .last-of .ensures)))
+    (run-stops (propagatorOf (g .kernel)) (g .n) (g .window) (g .tolerance) (packed (g .reals .now) (g .words .now) (g .count))
+    (take (g .n) (g .t8)) (sym (at-all-pass .all-pass .ensures) ∙ not-false (at-all-pass .all-pass .result) (at-if1 .if1 .left))
+    (rw (c .before .before .reply .given .1) at (at-last-of .last-of .ensures)))
 
 returns-3 : tie.Need-returns-3
 returns-3 c =
-    let g = c .before .before .before .before .before .before .before .before .args in
+    let at-last-of = c .before .before .before .before in
+    let at-if1 = at-last-of .before in
+    let at-all-pass = at-if1 .before in
+    let g = at-all-pass .before .before .args in
     c .judged .ensures
-    ∙ run-ends (propagatorOf (g .kernel)) (g .n) (g .window) (g .tolerance) (packed (g .reals .now) (g .words .now) (g .count)) (take (g .n) (g .t8)) (sym (c .before .before .before .before .before .before .all-pass .ensures) ∙ not-false (c .before .before .before .before .before .before .all-pass .result) (c .before .before .before .before .before .if1 .left))
-    (rw (c .before .before .enum-told .given .1) at (c .before .before .before .before .last-of .ensures))
+    ∙ run-ends (propagatorOf (g .kernel)) (g .n) (g .window) (g .tolerance) (packed (g .reals .now) (g .words .now) (g .count))
+    (take (g .n) (g .t8)) (sym (at-all-pass .all-pass .ensures) ∙ not-false (at-all-pass .all-pass .result) (at-if1 .if1 .left))
+    (rw (c .before .before .enum-told .given .1) at (at-last-of .last-of .ensures))
 
 pub accepted-spec : {M : Type 1} → statement M
 accepted-spec =

@@ -10,18 +10,30 @@ use Rattle.periodic_acceptance.proofs.judged.Tie as tie
 returns : tie.Need-returns
 unfolding ofBits
 returns c =
+    let at-maximum = c .before .before .before .before in
     let e = c .not-accepted .ensures in
-    let g = c .before .before .before .before .before .args in
+    let g = at-maximum .before .args in
     rw (e .0, e .1)
-    (ap (λ (r : Timed Float). then r (λ m. got (record { amounts = take (g .n) (g .candidate); residuals = residualsOf (g .n) (take (g .n) (g .candidate)) (take (g .n) (g .end)); greatest = m })))
-    (rw (c .before .before .reply .given .1) at (c .before .before .before .before .greatest .ensures)))
+    (ap (λ (r : Timed Float). then r (λ m. got (record {
+      amounts = take (g .n) (g .candidate);
+      residuals = residualsOf (g .n)
+          (take (g .n) (g .candidate)) (take (g .n) (g .end));
+      maximum = m;
+    })))
+    (rw (c .before .before .reply .given .1) at (at-maximum .maximum .ensures)))
 
 returns-2 : tie.Need-returns-2
 returns-2 c =
-    let g = c .before .before .before .before .args in
+    let at-maximum = c .before .before .before in
+    let g = at-maximum .before .args in
     rw (c .residuals .ensures)
-    (ap (λ (r : Timed Float). then r (λ m. got (record { amounts = take (g .n) (g .candidate); residuals = residualsOf (g .n) (take (g .n) (g .candidate)) (take (g .n) (g .end)); greatest = m })))
-    (rw (c .before .enum-told .given .1) at (c .before .before .before .greatest .ensures)))
+    (ap (λ (r : Timed Float). then r (λ m. got (record {
+      amounts = take (g .n) (g .candidate);
+      residuals = residualsOf (g .n)
+          (take (g .n) (g .candidate)) (take (g .n) (g .end));
+      maximum = m;
+    })))
+    (rw (c .before .enum-told .given .1) at (at-maximum .maximum .ensures)))
 
 pub judged-spec : {M : Type 1} → statement M
 judged-spec =

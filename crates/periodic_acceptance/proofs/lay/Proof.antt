@@ -10,7 +10,9 @@ slice-aggregate-lay : tie.Need-slice-aggregate-lay
 slice-aggregate-lay c = sym (length-take-le _ (c .before .before .args .t2) (omega arith))
 
 lay-requires : tie.Need-lay-requires
-lay-requires c κs = omega (arith, length-take-le (c .before .before .before .args .n) (c .before .before .before .args .t2) (omega arith))
+lay-requires c κs =
+    let start = c .before .before .before in
+    omega (arith, length-take-le (start .args .n) (start .args .t2) (omega arith))
 
 pub lay-spec : {M : Type 1} → statement M
 lay-spec =

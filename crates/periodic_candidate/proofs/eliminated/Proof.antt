@@ -12,17 +12,21 @@ use Rattle.periodic_candidate.proofs.eliminated.Tie as tie
 returns : tie.Need-returns
 unfolding ofBits
 returns c =
+    let at-solve = c .before .before .before .before in
+    let at-system = at-solve .before in
     let e = c .not-solved .ensures in
-    let g = c .before .before .before .before .before .before .args in
+    let g = at-system .before .args in
     rw (e .0, e .1)
-    (ap untimed (rw (c .before .before .reply .given .1) at (c .before .before .before .before .solve .ensures)
-    ∙ ap (solve (g .n)) (system-is (g .n) (g .columns .now) (c .before .before .before .before .before .system .result) (take (g .n) (g .offset)) (c .before .before .before .before .before .system .ensures))))
+    (ap untimed (rw (c .before .before .reply .given .1) at (at-solve .solve .ensures)
+    ∙ ap (solve (g .n)) (system-is (g .n) (g .columns .now) (at-system .system .result) (take (g .n) (g .offset)) (at-system .system .ensures))))
 
 returns-2 : tie.Need-returns-2
 returns-2 c =
-    let g = c .before .before .before .before .before .args in
-    ap untimed (rw (c .before .enum-told .given .1) at (c .before .before .before .solve .ensures)
-    ∙ ap (solve (g .n)) (system-is (g .n) (g .columns .now) (c .before .before .before .before .system .result) (take (g .n) (g .offset)) (c .before .before .before .before .system .ensures)))
+    let at-solve = c .before .before .before in
+    let at-system = at-solve .before in
+    let g = at-system .before .args in
+    ap untimed (rw (c .before .enum-told .given .1) at (at-solve .solve .ensures)
+    ∙ ap (solve (g .n)) (system-is (g .n) (g .columns .now) (at-system .system .result) (take (g .n) (g .offset)) (at-system .system .ensures)))
 
 pub eliminated-spec : {M : Type 1} → statement M
 eliminated-spec =

@@ -11,39 +11,57 @@ use Rattle.periodic_candidate.proofs.solution.Tie as tie
 returns : tie.Need-returns
 unfolding ofBits
 returns c =
+    let at-last-of = c .before .before .before .before in
+    let start = at-last-of .before in
     let e = c .not-solved .ensures in
-    let g = c .before .before .before .before .before .args in
+    let g = start .args in
     let fs = packed (g .reals .now) (g .words .now) (g .count) in
     rw (e .0, e .1)
     (solution-stops (propagatorOf (g .kernel)) (g .n) (g .window) fs
-    (rw (c .before .before .first .given .1, zero-front (propagatorOf (g .kernel)) (g .n) (g .window) fs (c .before .before .before .before .before .pre .0 .states)) at (c .before .before .before .before .last-of .ensures)))
+    (rw (c .before .before .first .given .1, zero-front (propagatorOf (g .kernel)) (g .n) (g .window) fs (start .pre .0 .states)) at
+    (at-last-of .last-of .ensures)))
 
 columns-requires : tie.Need-columns-requires
-columns-requires c κs = (c .before .before .before .before .before .pre .1, c .before .before .before .before .before .pre .2, sym (c .before .column-cells .ensures))
+columns-requires c κs =
+    let start = c .before .before .before .before .before in
+    (start .pre .1, start .pre .2, sym (c .before .column-cells .ensures))
 
 returns-2 : tie.Need-returns-2
 unfolding ofBits
 returns-2 c =
+    let at-columns2 = c .before .before .before .before in
+    let at-enum-told = at-columns2 .before .before .before in
+    let at-last-of = at-enum-told .before .before in
+    let start = at-last-of .before in
     let e = c .not-solved2 .ensures in
-    let g = c .before .before .before .before .before .before .before .before .before .before .args in
+    let g = start .args in
     let fs = packed (g .reals .now) (g .words .now) (g .count) in
     rw (e .0, e .1)
     (columns-stop (propagatorOf (g .kernel)) (g .n) (g .window) fs
-    (rw (c .before .before .before .before .before .before .before .enum-told .given .1, zero-front (propagatorOf (g .kernel)) (g .n) (g .window) fs (c .before .before .before .before .before .before .before .before .before .before .pre .0 .states)) at (c .before .before .before .before .before .before .before .before .before .last-of .ensures))
-    (rw (c .before .before .reply .given .1) at (c .before .before .before .before .columns2 .ensures)))
+    (rw (at-enum-told .enum-told .given .1, zero-front (propagatorOf (g .kernel)) (g .n) (g .window) fs (start .pre .0 .states)) at
+    (at-last-of .last-of .ensures))
+    (rw (c .before .before .reply .given .1) at (at-columns2 .columns2 .ensures)))
 
 returns-3 : tie.Need-returns-3
 unfolding ofBits
 returns-3 c =
-    let g = c .before .before .before .before .before .before .before .before .before .before .before .args in
+    let at-enum-told2 = c .before .before .before in
+    let at-columns2 = at-enum-told2 .before .before in
+    let at-enum-told = at-columns2 .before .before .before in
+    let at-last-of = at-enum-told .before .before in
+    let start = at-last-of .before in
+    let g = start .args in
     let fs = packed (g .reals .now) (g .words .now) (g .count) in
     c .eliminated .ensures
     ∙ solution-solves (propagatorOf (g .kernel)) (g .n) (g .window) fs
-    (rw (c .before .before .before .before .before .before .before .before .enum-told .given .1, zero-front (propagatorOf (g .kernel)) (g .n) (g .window) fs (c .before .before .before .before .before .before .before .before .before .before .before .pre .0 .states)) at (c .before .before .before .before .before .before .before .before .before .before .last-of .ensures))
-    (rw (c .before .before .before .enum-told2 .given .1) at (c .before .before .before .before .before .columns2 .ensures))
+    (rw (at-enum-told .enum-told .given .1, zero-front (propagatorOf (g .kernel)) (g .n) (g .window) fs (start .pre .0 .states)) at
+    (at-last-of .last-of .ensures))
+    (rw (at-enum-told2 .enum-told2 .given .1) at (at-columns2 .columns2 .ensures))
 
 eliminated-requires : tie.Need-eliminated-requires
-eliminated-requires c κs = c .before .before .before .before .before .before .before .before .before .before .pre .0 .states
+eliminated-requires c κs =
+    let start = c .before .before .before .before .before .before .before .before .before .before in
+    start .pre .0 .states
 
 pub solution-spec : {M : Type 1} → statement M
 solution-spec =

@@ -20,33 +20,47 @@ returns c =
 
 returns-2 : tie.Need-returns-2
 returns-2 c =
-    let g = c .before .before .before .before .before .before .before .before .before .before .args in
+    let at-folded = c .before .before .before .before in
+    let at-if1 = at-folded .before .before .before in
+    let at-tolerance-passes = at-if1 .before in
+    let g = at-tolerance-passes .before .before .args in
     let e = c .refused2 .ensures in (
       rw (e .0) (fold-stops (g .n) (g .window) (g .samples .now) (packed (g .reals .now) (g .words .now) (g .count)) (g .tolerance)
-          (sym (c .before .before .before .before .before .before .before .before .tolerance-passes .ensures) ∙ not-false (c .before .before .before .before .before .before .before .before .tolerance-passes .result) (c .before .before .before .before .before .before .before .if1 .left))
-          (rw (c .before .before .reply .given .1) at (c .before .before .before .before .folded .ensures .0))),
+          (sym (at-tolerance-passes .tolerance-passes .ensures) ∙ not-false (at-tolerance-passes .tolerance-passes .result) (at-if1 .if1 .left))
+          (rw (c .before .before .reply .given .1) at (at-folded .folded .ensures .0))),
       omega (arith, e .1),
     )
 
 returns-3 : tie.Need-returns-3
 returns-3 c =
-    let g = c .before .before .before .before .before .before .before .before .before .before .before .before .before .before .before .before .before .args in
+    let at-prepared = c .before .before .before .before in
+    let at-divided = at-prepared .before .before .before .before in
+    let at-enum-told = at-divided .before in
+    let at-folded = at-enum-told .before .before in
+    let at-if1 = at-folded .before .before .before in
+    let at-tolerance-passes = at-if1 .before in
+    let g = at-tolerance-passes .before .before .args in
     let e = c .refused3 .ensures in (
       rw (e .0) (prepare-stops (g .n) (g .window) (g .samples .now) (packed (g .reals .now) (g .words .now) (g .count)) (g .tolerance)
-          (sym (c .before .before .before .before .before .before .before .before .before .before .before .before .before .before .before .tolerance-passes .ensures) ∙ not-false (c .before .before .before .before .before .before .before .before .before .before .before .before .before .before .before .tolerance-passes .result) (c .before .before .before .before .before .before .before .before .before .before .before .before .before .before .if1 .left))
-          (rw (c .before .before .before .before .before .before .before .before .before .enum-told .given .1) at (c .before .before .before .before .before .before .before .before .before .before .before .folded .ensures .0)) (refusal-number (c .before .before .prepared2 .given .0 .0))
-          (rw (c .before .before .prepared2 .given .1, c .before .before .before .before .before .before .before .before .divided .ensures) at (c .before .before .before .before .prepared .ensures))),
+          (sym (at-tolerance-passes .tolerance-passes .ensures) ∙ not-false (at-tolerance-passes .tolerance-passes .result) (at-if1 .if1 .left))
+          (rw (at-enum-told .enum-told .given .1) at (at-folded .folded .ensures .0)) (refusal-number (c .before .before .prepared2 .given .0 .0))
+          (rw (c .before .before .prepared2 .given .1, at-divided .divided .ensures) at (at-prepared .prepared .ensures))),
       omega (arith, e .1),
     )
 
 returns-4 : tie.Need-returns-4
 returns-4 c =
-    let g = c .before .before .before .before .before .before .before .before .before .before .before .before .before .before .before .args in (
-      rw (c .before .before .before .before .before .before .before .enum-told .given .1) (ready-got (g .n) (g .window) (g .samples .now) (packed (g .reals .now) (g .words .now) (g .count)) (g .tolerance)
-          (sym (c .before .before .before .before .before .before .before .before .before .before .before .before .before .tolerance-passes .ensures) ∙ not-false (c .before .before .before .before .before .before .before .before .before .before .before .before .before .tolerance-passes .result) (c .before .before .before .before .before .before .before .before .before .before .before .before .if1 .left))
-          (rw (c .before .before .before .before .before .before .before .enum-told .given .1) at (c .before .before .before .before .before .before .before .before .before .folded .ensures .0))
-          (rw (c .enum-told2 .given .1, c .before .before .before .before .before .before .divided .ensures) at (c .before .before .prepared .ensures))),
-      c .before .before .before .before .before .before .before .before .before .folded .ensures .1 .1 .0,
+    let at-divided = c .before .before .before .before .before .before in
+    let at-enum-told = at-divided .before in
+    let at-folded = at-enum-told .before .before in
+    let at-if1 = at-folded .before .before .before in
+    let at-tolerance-passes = at-if1 .before in
+    let g = at-tolerance-passes .before .before .args in (
+      rw (at-enum-told .enum-told .given .1) (ready-got (g .n) (g .window) (g .samples .now) (packed (g .reals .now) (g .words .now) (g .count)) (g .tolerance)
+          (sym (at-tolerance-passes .tolerance-passes .ensures) ∙ not-false (at-tolerance-passes .tolerance-passes .result) (at-if1 .if1 .left))
+          (rw (at-enum-told .enum-told .given .1) at (at-folded .folded .ensures .0))
+          (rw (c .enum-told2 .given .1, at-divided .divided .ensures) at (c .before .before .prepared .ensures))),
+      at-folded .folded .ensures .1 .1 .0,
     )
 
 pub prepare-periodic-steady-state-spec : {M : Type 1} → statement M

@@ -15,37 +15,77 @@ returns : tie.Need-returns
 returns c =
     let g = c .before .before .before .before .args in
     refuses (g .amounts .now) (g .residual .now) (c .refused .ensures)
-    (room-stops (propagatorOf (g .kernel)) (g .n) (g .window) (g .tolerance) (packed (g .reals .now) (g .words .now) (g .count)) {room = leb (g .n) (length (g .amounts .now)) && leb (g .n) (length (g .residual .now))} (rw (lt-leb (g .n) (length (g .amounts .now)) (c .before .if1 .taken))))
+    (room-stops (propagatorOf (g .kernel)) (g .n) (g .window) (g .tolerance) (packed (g .reals .now) (g .words .now) (g .count))
+    {room = leb (g .n) (length (g .amounts .now)) && leb (g .n) (length (g .residual .now))}
+    (rw (lt-leb (g .n) (length (g .amounts .now)) (c .before .if1 .taken))))
 
 returns-2 : tie.Need-returns-2
 returns-2 c =
     let g = c .before .before .before .before .before .args in
     refuses (g .amounts .now) (g .residual .now) (c .refused2 .ensures)
-    (room-stops (propagatorOf (g .kernel)) (g .n) (g .window) (g .tolerance) (packed (g .reals .now) (g .words .now) (g .count)) {room = leb (g .n) (length (g .amounts .now)) && leb (g .n) (length (g .residual .now))}
+    (room-stops (propagatorOf (g .kernel)) (g .n) (g .window) (g .tolerance) (packed (g .reals .now) (g .words .now) (g .count))
+    {room = leb (g .n) (length (g .amounts .now)) && leb (g .n) (length (g .residual .now))}
     (rw (le-leb (g .n) (length (g .amounts .now)) (c .before .before .if1 .left), lt-leb (g .n) (length (g .residual .now)) (c .before .if2 .taken))))
 
 returns-3 : tie.Need-returns-3
 returns-3 c =
-    let g = c .before .before .before .before .before .before .before .before .args in
-    let room : leb (g .n) (length (g .amounts .now)) && leb (g .n) (length (g .residual .now)) ≡ true = rw (le-leb (g .n) (length (g .amounts .now)) (c .before .before .before .before .before .if1 .left), le-leb (g .n) (length (g .residual .now)) (c .before .before .before .before .if2 .left)) in
+    let at-solution = c .before .before .before in
+    let at-if2 = at-solution .before in
+    let at-if1 = at-if2 .before in
+    let g = at-if1 .before .before .before .args in
+    let room : leb (g .n) (length (g .amounts .now)) && leb (g .n) (length (g .residual .now))
+    ≡ true = rw (
+      le-leb (g .n) (length (g .amounts .now)) (at-if1 .if1 .left),
+      le-leb (g .n) (length (g .residual .now)) (at-if2 .if2 .left),
+    ) in
     refuses (g .amounts .now) (g .residual .now) refl
-    (candidate-none (propagatorOf (g .kernel)) (g .n) (g .window) (g .tolerance) (packed (g .reals .now) (g .words .now) (g .count)) room (rw (c .before .solved .given .1) at (c .before .before .before .solution .ensures)))
+    (candidate-none (propagatorOf (g .kernel)) (g .n) (g .window) (g .tolerance) (packed (g .reals .now) (g .words .now) (g .count)) room
+    (rw (c .before .solved .given .1) at (at-solution .solution .ensures)))
 
 returns-4 : tie.Need-returns-4
 returns-4 c =
-    let g = c .before .before .before .before .before .before .before .before .before .before .before .before .args in
-    let room : leb (g .n) (length (g .amounts .now)) && leb (g .n) (length (g .residual .now)) ≡ true = rw (le-leb (g .n) (length (g .amounts .now)) (c .before .before .before .before .before .before .before .before .before .if1 .left), le-leb (g .n) (length (g .residual .now)) (c .before .before .before .before .before .before .before .before .if2 .left)) in
+    let at-accepted = c .before .before .before in
+    let at-enum-told = at-accepted .before .before in
+    let at-solution = at-enum-told .before .before in
+    let at-if2 = at-solution .before in
+    let at-if1 = at-if2 .before in
+    let g = at-if1 .before .before .before .args in
+    let room : leb (g .n) (length (g .amounts .now)) && leb (g .n) (length (g .residual .now))
+    ≡ true = rw (
+      le-leb (g .n) (length (g .amounts .now)) (at-if1 .if1 .left),
+      le-leb (g .n) (length (g .residual .now)) (at-if2 .if2 .left),
+    ) in
     refuses (g .amounts .now) (g .residual .now) refl
-    (candidate-some (propagatorOf (g .kernel)) (g .n) (g .window) (g .tolerance) (packed (g .reals .now) (g .words .now) (g .count)) room (rw (c .before .before .before .before .before .enum-told .given .1) at (c .before .before .before .before .before .before .before .solution .ensures)) (rw (c .before .reply .given .1) at (c .before .before .before .accepted .ensures)))
+    (candidate-some (propagatorOf (g .kernel)) (g .n) (g .window) (g .tolerance) (packed (g .reals .now) (g .words .now) (g .count)) room
+    (rw (at-enum-told .enum-told .given .1) at (at-solution .solution .ensures)) (rw (c .before .reply .given .1) at
+    (at-accepted .accepted .ensures)))
 
 returns-5 : tie.Need-returns-5
 returns-5 c =
-    let g = c .before .before .before .before .before .before .before .before .before .before .before .before .before .before .before .before .before .before .before .before .args in
-    let room : leb (g .n) (length (g .amounts .now)) && leb (g .n) (length (g .residual .now)) ≡ true = rw (le-leb (g .n) (length (g .amounts .now)) (c .before .before .before .before .before .before .before .before .before .before .before .before .before .before .before .before .before .if1 .left), le-leb (g .n) (length (g .residual .now)) (c .before .before .before .before .before .before .before .before .before .before .before .before .before .before .before .before .if2 .left)) in
-    let j = c .before .before .before .before .before .before .before .before .before .before .before .accepted .result in
-    solves (record { amounts = take (g .n) (c .before .before .before .before .before .before .before .before .before .before .before .before .before .before .before .solution .result .amounts); residuals = take (g .n) (j .residuals); greatest = j .greatest }) (g .amounts .now) (g .residual .now)
-    (candidate-some (propagatorOf (g .kernel)) (g .n) (g .window) (g .tolerance) (packed (g .reals .now) (g .words .now) (g .count)) room (rw (c .before .before .before .before .before .before .before .before .before .before .before .before .before .enum-told .given .1) at (c .before .before .before .before .before .before .before .before .before .before .before .before .before .before .before .solution .ensures)) (rw (c .before .before .before .before .before .before .before .before .before .enum-told2 .given .1) at (c .before .before .before .before .before .before .before .before .before .before .before .accepted .ensures)))
-    (c .before .before .before .before .before .before .lay .ensures) (c .before .before .lay2 .ensures)
+    let at-lay = c .before .before .before .before .before .before in
+    let at-enum-told2 = at-lay .before .before .before in
+    let at-accepted = at-enum-told2 .before .before in
+    let at-enum-told = at-accepted .before .before in
+    let at-solution = at-enum-told .before .before in
+    let at-if2 = at-solution .before in
+    let at-if1 = at-if2 .before in
+    let g = at-if1 .before .before .before .args in
+    let room : leb (g .n) (length (g .amounts .now)) && leb (g .n) (length (g .residual .now))
+    ≡ true = rw (
+      le-leb (g .n) (length (g .amounts .now)) (at-if1 .if1 .left),
+      le-leb (g .n) (length (g .residual .now)) (at-if2 .if2 .left),
+    ) in
+    let j = at-accepted .accepted .result in
+    solves (record {
+      amounts = take (g .n) (at-solution .solution .result .amounts);
+      residuals = take (g .n)
+          (j .residuals);
+      maximum = j .maximum;
+    }) (g .amounts .now) (g .residual .now)
+    (candidate-some (propagatorOf (g .kernel)) (g .n) (g .window) (g .tolerance) (packed (g .reals .now) (g .words .now) (g .count)) room
+    (rw (at-enum-told .enum-told .given .1) at (at-solution .solution .ensures)) (rw (at-enum-told2 .enum-told2 .given .1) at
+    (at-accepted .accepted .ensures)))
+    (at-lay .lay .ensures) (c .before .before .lay2 .ensures)
 
 pub execute-prepared-periodic-steady-state-spec : {M : Type 1} → statement M
 execute-prepared-periodic-steady-state-spec =

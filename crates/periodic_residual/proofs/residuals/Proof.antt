@@ -6,6 +6,7 @@ use Prim.Native.Nat.{ℕ, _≤_, _-_}
 use lib.ListN.{take}
 use lib.Seq.{getD-take}
 use lib.Ieee.{nan, binary64, sub, ofBits}
+use Rattle.limits.specs.Limits.{states}
 use Rattle.binary64.specs.Doubles.{plusZero}
 use Rattle.matrix.specs.Matrix.{cell}
 use Rattle.matrix.proofs.Filled.{fill, fillFrom, fill-more, part-filled}
@@ -14,7 +15,7 @@ use Rattle.periodic_residual.proofs.residuals.Statement.{statement}
 use Rattle.periodic_residual.proofs.residuals.Tie as tie
 
 abbrev Inv-loop : tie.InvT-loop
-Inv-loop n start end list₀ i₀ list i = (i ≤ n) × (list ≡ fill 4 i (λ (k : ℕ). sub binary64 (cell (take n end) k) (cell (take n start) k)) plusZero)
+Inv-loop n start end list₀ i₀ list i = (i ≤ n) × (list ≡ fill states i (λ (k : ℕ). sub binary64 (cell (take n end) k) (cell (take n start) k)) plusZero)
 
 abbrev μ-loop : tie.MeasureT-loop
 μ-loop n start end list₀ i₀ list i = n - i
@@ -28,7 +29,8 @@ loop-again c =
     let g = c .before .before .args in
     let l = c .loop-test .taken in (
       omega arith,
-      fill-more _ _ _ _ (c .before .loop .inv .1) (ap₂ (sub binary64) (sym (getD-take (g .n) (g .t3) (c .before .loop .i) nan l)) (sym (getD-take (g .n) (g .t2) (c .before .loop .i) nan l))) (omega arith),
+      fill-more _ _ _ _ (c .before .loop .inv .1) (ap₂ (sub binary64) (sym (getD-take (g .n) (g .t3) (c .before .loop .i) nan l))
+          (sym (getD-take (g .n) (g .t2) (c .before .loop .i) nan l))) (omega arith),
     )
 
 returns : tie.Need-returns Inv-loop μ-loop
@@ -39,5 +41,6 @@ pub residuals-spec : {M : Type 1} → statement M
 residuals-spec =
     tie.close
     (tie.spec
-    Inv-loop μ-loop loop-holds (λ c. search needs) (λ c. search needs) (λ c. search needs) (λ c. search needs) (λ c. search needs) (λ c. search needs) (λ c. search needs) (λ c. search needs)
+    Inv-loop μ-loop loop-holds (λ c. search needs) (λ c. search needs) (λ c. search needs) (λ c. search needs) (λ c. search needs)
+    (λ c. search needs) (λ c. search needs) (λ c. search needs)
     loop-again returns)

@@ -6,7 +6,9 @@ use Rattle.periodic_residual.proofs.scale.Tie as tie
 
 returns : tie.Need-returns
 unfolding scaleOf
-returns c = rw (c .before .before .max .ensures, c .before .before .before .abs2 .ensures, c .before .before .before .before .abs .ensures)
+returns c =
+    let at-abs2 = c .before .before .before in
+    rw (c .before .before .max .ensures, at-abs2 .abs2 .ensures, at-abs2 .before .abs .ensures)
 
 pub scale-spec : {M : Type 1} → statement M
 scale-spec =

@@ -4,6 +4,7 @@ use borrow.Author.Needs.{needs}
 use native.Mathlib.Omega.{arith}
 use Prim.Native.Nat.{_≤_, _-_}
 use lib.ListN.{length, length-set}
+use Rattle.limits.specs.Limits.{states}
 use Rattle.events.specs.Packed.{packed}
 use Rattle.simulation.specs.KernelRun.{propagatorOf}
 use Rattle.cycle.specs.Closed.{got, columnsTo, homogeneous}
@@ -14,7 +15,7 @@ use Rattle.periodic_runs.proofs.columns.Tie as tie
 
 abbrev Inv-loop : tie.InvT-loop
 Inv-loop kernel n window reals words count columns₀ zeroed j₀ columns j =
-    (j ≤ n) × (length columns ≡ 4) × (columnsTo (propagatorOf kernel) n window (packed reals words count) j ≡ got (columnsOf n columns j))
+    (j ≤ n) × (length columns ≡ states) × (columnsTo (propagatorOf kernel) n window (packed reals words count) j ≡ got (columnsOf n columns j))
 
 abbrev μ-loop : tie.MeasureT-loop
 μ-loop kernel n window reals words count columns₀ zeroed j₀ columns j = n - j
@@ -23,27 +24,55 @@ loop-holds : tie.Need-loop-holds Inv-loop μ-loop
 loop-holds c = (omega arith, c .before .pre .2, columns-none _ _ _ _ (c .before .args .columns .now))
 
 unit-requires : tie.Need-unit-requires Inv-loop μ-loop
-unit-requires c κs = omega (arith, c .before .before .before .pre .0 .states)
+unit-requires c κs =
+    omega (arith, c .before .before .before .pre .0 .states)
 
 last-of-requires : tie.Need-last-of-requires Inv-loop μ-loop
-last-of-requires c κs = rw (c .before .before .before .before .homogeneous .ensures (c .before .before .before .before .before .args .words .now)) (c .before .before .before .before .before .pre .0)
+last-of-requires c κs =
+    let at-homogeneous = c .before .before .before .before in
+    let start = at-homogeneous .before in
+    rw (at-homogeneous .homogeneous .ensures (start .args .words .now)) (start .pre .0)
 
 returns : tie.Need-returns Inv-loop μ-loop
 returns c =
-    let g = c .before .before .before .before .before .before .before .before .before .args in
-    let l = c .before .before .before .before .before .before .loop-test .taken in
-    columns-stop (propagatorOf (g .kernel)) (g .n) (g .window) (packed (g .reals .now) (g .words .now) (g .count)) (c .before .before .before .before .before .before .before .loop .columns) (c .before .before .before .before .before .before .before .loop .j) (c .before .before .before .before .before .before .before .loop .inv .2) l
-    (rw (c .before .before .before .before .before .before .before .before .homogeneous .ensures (g .words .now), c .before .before .before .before .before .unit .ensures, unit-front (g .n) (c .before .before .before .before .before .before .before .loop .j) (c .before .before .before .before .before .before .before .before .before .pre .0 .states) l, c .before .reply .given .1) at (c .before .before .before .last-of .ensures))
+    let at-last-of = c .before .before .before in
+    let at-unit = at-last-of .before .before in
+    let at-loop-test = at-unit .before in
+    let at-loop = at-loop-test .before in
+    let at-homogeneous = at-loop .before in
+    let start = at-homogeneous .before in
+    let g = start .args in
+    let l = at-loop-test .loop-test .taken in
+    columns-stop (propagatorOf (g .kernel)) (g .n) (g .window) (packed (g .reals .now) (g .words .now) (g .count)) (at-loop .loop .columns)
+    (at-loop .loop .j) (at-loop .loop .inv .2) l
+    (rw (
+      at-homogeneous .homogeneous .ensures (g .words .now),
+      at-unit .unit .ensures,
+      unit-front (g .n) (at-loop .loop .j) (start .pre .0 .states) l,
+      c .before .reply .given .1,
+    ) at (at-last-of .last-of .ensures))
 
 loop-again : tie.Need-loop-again Inv-loop μ-loop
 loop-again c =
-    let g = c .before .before .before .before .before .before .before .before .before .args in
-    let l = c .before .before .before .before .before .before .loop-test .taken in (
+    let at-last-of = c .before .before .before in
+    let at-unit = at-last-of .before .before in
+    let at-loop-test = at-unit .before in
+    let at-loop = at-loop-test .before in
+    let at-homogeneous = at-loop .before in
+    let start = at-homogeneous .before in
+    let g = start .args in (
       omega arith,
-      simp length-set (c .before .before .before .before .before .before .before .loop .inv .1),
-      columns-more (propagatorOf (g .kernel)) (g .n) (g .window) (packed (g .reals .now) (g .words .now) (g .count)) (c .before .before .before .before .before .before .before .loop .columns) (c .before .before .before .before .before .before .before .loop .j) (c .before .before .before .before .before .before .before .loop .inv .2) (c .before .before .before .last-of .result .amounts)
-          (omega (arith, c .before .before .before .before .before .before .before .before .before .pre .0 .states))
-          (rw (c .before .before .before .before .before .before .before .before .homogeneous .ensures (g .words .now), c .before .before .before .before .before .unit .ensures, unit-front (g .n) (c .before .before .before .before .before .before .before .loop .j) (c .before .before .before .before .before .before .before .before .before .pre .0 .states) l, c .before .enum-told .given .1) at (c .before .before .before .last-of .ensures)),
+      simp length-set (at-loop .loop .inv .1),
+      columns-more (propagatorOf (g .kernel)) (g .n) (g .window) (packed (g .reals .now) (g .words .now) (g .count))
+          (at-loop .loop .columns) (at-loop .loop .j) (at-loop .loop .inv .2) (at-last-of .last-of .result .amounts)
+          (omega (arith, start .pre .0 .states))
+          (rw (
+            at-homogeneous .homogeneous .ensures (g .words .now),
+            at-unit .unit .ensures,
+            unit-front (g .n) (at-loop .loop .j) (start .pre .0 .states) (at-loop-test .loop-test .taken),
+            c .before .enum-told .given
+                .1,
+          ) at (at-last-of .last-of .ensures)),
     )
 
 returns-2 : tie.Need-returns-2 Inv-loop μ-loop

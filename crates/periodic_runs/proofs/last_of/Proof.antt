@@ -5,7 +5,9 @@ use Rattle.periodic_runs.proofs.last_of.Statement.{statement}
 use Rattle.periodic_runs.proofs.last_of.Tie as tie
 
 last-in-requires : tie.Need-last-in-requires
-last-in-requires c κs = (c .before .before .before .before .before .before .before .before .before .before .pre, omega arith, omega arith, omega arith, omega arith, omega arith)
+last-in-requires c κs =
+    let start = c .before .before .before .before .before .before .before .before .before .before in
+    (start .pre, omega arith, omega arith, omega arith, omega arith, omega arith)
 
 pub last-of-spec : {M : Type 1} → statement M
 last-of-spec =

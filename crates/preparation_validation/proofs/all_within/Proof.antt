@@ -22,10 +22,19 @@ loop-holds : tie.Need-loop-holds Inv-loop μ-loop
 loop-holds c = (omega arith, refl)
 
 loop-again : tie.Need-loop-again Inv-loop μ-loop
-loop-again c = (omega arith, all-more (within (c .before .before .before .before .before .args .window)) (c .before .before .before .before .before .args .samples .now) nan (c .before .before .before .loop .i) (c .before .before .before .loop .ok) (c .before .before .loop-test .taken) (c .within .ensures) (c .before .before .before .loop .inv .1))
+loop-again c =
+    let at-loop = c .before .before .before in
+    let start = at-loop .before .before in (
+      omega arith,
+      all-more (within (start .args .window)) (start .args .samples .now) nan (at-loop .loop .i) (at-loop .loop .ok)
+          (c .before .before .loop-test .taken) (c .within .ensures) (at-loop .loop .inv .1),
+    )
 
 returns : tie.Need-returns Inv-loop μ-loop
-returns c = all-done (within (c .before .before .before .args .window)) (c .before .before .before .args .samples .now) (c .before .loop .i) (c .before .loop .ok) (c .loop-test .left) (c .before .loop .inv .1)
+returns c =
+    let start = c .before .before .before in
+    all-done (within (start .args .window)) (start .args .samples .now) (c .before .loop .i) (c .before .loop .ok) (c .loop-test .left)
+    (c .before .loop .inv .1)
 
 pub all-within-spec : {M : Type 1} → statement M
 all-within-spec =

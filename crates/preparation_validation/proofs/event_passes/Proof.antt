@@ -4,7 +4,15 @@ use Rattle.preparation_validation.proofs.event_passes.Statement.{statem
 use Rattle.preparation_validation.proofs.event_passes.Tie as tie
 
 returns : tie.Need-returns
-returns c = rw (c .before .before .within .ensures, c .before .before .before .time-of .ensures, c .before .target-of .ensures, c .values-pass .ensures, c .before .before .before .before .event-at .ensures)
+returns c =
+    let at-time-of = c .before .before .before in
+    rw (
+      c .before .before .within .ensures,
+      at-time-of .time-of .ensures,
+      c .before .target-of .ensures,
+      c .values-pass .ensures,
+      at-time-of .before .event-at .ensures,
+    )
 
 pub event-passes-spec : {M : Type 1} → statement M
 event-passes-spec =

@@ -12,7 +12,8 @@ use Rattle.preparation_validation.proofs.events_pass.Statement.{stateme
 use Rattle.preparation_validation.proofs.events_pass.Tie as tie
 
 abbrev Inv-loop : tie.InvT-loop
-Inv-loop n window reals words count ok₀ i₀ ok i = (i ≤ count) × (ok && passFrom n window reals words count i ≡ eventsPass n window [] (packed reals words count))
+Inv-loop n window reals words count ok₀ i₀ ok i =
+    (i ≤ count) × (ok && passFrom n window reals words count i ≡ eventsPass n window [] (packed reals words count))
 
 abbrev μ-loop : tie.MeasureT-loop
 μ-loop n window reals words count ok₀ i₀ ok i = count - i
@@ -21,7 +22,11 @@ loop-holds : tie.Need-loop-holds Inv-loop μ-loop
 loop-holds c = (omega arith, events-start _ _ _ _ _)
 
 loop-again : tie.Need-loop-again Inv-loop μ-loop
-loop-again c = (omega arith, events-more _ _ _ _ _ (c .before .before .loop .i) (c .before .before .loop .ok) (c .before .loop-test .taken) (c .event-passes .ensures) (c .before .before .loop .inv .1))
+loop-again c = (
+  omega arith,
+  events-more _ _ _ _ _ (c .before .before .loop .i) (c .before .before .loop .ok) (c .before .loop-test .taken)
+      (c .event-passes .ensures) (c .before .before .loop .inv .1),
+)
 
 returns : tie.Need-returns Inv-loop μ-loop
 returns c = events-done _ _ _ _ _ (c .before .loop .i) (c .before .loop .ok) (c .loop-test .left) (c .before .loop .inv .1)

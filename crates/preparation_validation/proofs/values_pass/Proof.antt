@@ -7,10 +7,18 @@ returns : tie.Need-returns
 returns c = rw (c .before .before .event .given .1) (c .is-nonnegative .ensures)
 
 returns-2 : tie.Need-returns-2
-returns-2 c = rw (c .before .before .before .before .before .event2 .given .1, c .before .before .before .is-nonnegative2 .ensures, c .before .before .is-positive .ensures, c .is-finite .ensures)
+returns-2 c =
+    let at-is-nonnegative2 = c .before .before .before in
+    rw (
+      at-is-nonnegative2 .before .before .event2 .given .1,
+      at-is-nonnegative2 .is-nonnegative2 .ensures,
+      c .before .before .is-positive .ensures,
+      c .is-finite .ensures,
+    )
 
 returns-3 : tie.Need-returns-3
-returns-3 c = rw (c .before .before .before .event3 .given .1, c .before .is-finite2 .ensures, c .repeats .ensures)
+returns-3 c =
+    rw (c .before .before .before .event3 .given .1, c .before .is-finite2 .ensures, c .repeats .ensures)
 
 pub values-pass-spec : {M : Type 1} → statement M
 values-pass-spec =

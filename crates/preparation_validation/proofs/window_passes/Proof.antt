@@ -4,7 +4,9 @@ use Rattle.preparation_validation.proofs.window_passes.Statement.{state
 use Rattle.preparation_validation.proofs.window_passes.Tie as tie
 
 returns : tie.Need-returns
-returns c = rw (c .before .before .before .before .is-finite .ensures, c .before .before .before .is-finite2 .ensures, c .before .is-positive .ensures, c .is-positive2 .ensures)
+returns c =
+    let at-is-finite2 = c .before .before .before in
+    rw (at-is-finite2 .before .is-finite .ensures, at-is-finite2 .is-finite2 .ensures, c .before .is-positive .ensures, c .is-positive2 .ensures)
 
 pub window-passes-spec : {M : Type 1} → statement M
 window-passes-spec =

@@ -9,7 +9,9 @@ use Rattle.printout.proofs.is_answer.Statement.{statement}
 use Rattle.printout.proofs.is_answer.Tie as tie
 
 returns : tie.Need-returns
-returns c = rw (c .enum-told .given .1) (sym (ne-eqb (refusalNumber (c .enum-told .given .0 .0)) 0 (λ e. omega (arith, e, refusal-number (c .enum-told .given .0 .0)))))
+returns c =
+    rw (c .enum-told .given .1) (sym (ne-eqb (refusalNumber (c .enum-told .given .0 .0)) 0
+    (λ e. omega (arith, e, refusal-number (c .enum-told .given .0 .0)))))
 
 returns-2 : tie.Need-returns-2
 returns-2 c = rw (c .enum-told2 .given .1) refl

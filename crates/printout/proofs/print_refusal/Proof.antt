@@ -14,12 +14,16 @@ use Rattle.printout.proofs.print_refusal.Tie as tie
 returns : tie.Need-returns
 unfolding ofBits
 returns c =
-    let e = c .before .before .before .before .before .before .before .before .number .ensures in
-    let p = c .before .before .before .print-run .ensures in
-    prints (refusal-text _ _ _ _ _ _ _ _ (omega (arith, refusal-number (c .before .before .before .before .before .before .before .before .before .before .args .refusal), e)) ∙ ap (λ (n : ℕ). refusedText n plusZero) e) (refusal-some _ _) (c .reply-of .ensures .0) (c .reply-of .ensures .1) (p .0) (p .1)
+    let at-print-run = c .before .before .before in
+    let at-number = at-print-run .before .before .before .before .before in
+    let e = at-number .number .ensures in
+    let p = at-print-run .print-run .ensures in
+    prints (refusal-text _ _ _ _ _ _ _ _ (omega (arith, refusal-number (at-number .before .before .args .refusal), e))
+    ∙ ap (λ (n : ℕ). refusedText n plusZero) e) (refusal-some _ _) (c .reply-of .ensures .0) (c .reply-of .ensures .1) (p .0) (p .1)
 
 pub print-refusal-spec : {M : Type 1} → statement M
 print-refusal-spec =
     tie.close
     (tie.spec
-    (λ c κs. search needs) (λ c. search needs) (λ c. search needs) (λ c. search needs) (λ c κs. search needs) (λ c κs. search needs) (λ c. search needs) returns)
+    (λ c κs. search needs) (λ c. search needs) (λ c. search needs) (λ c. search needs) (λ c κs. search needs) (λ c κs. search needs)
+    (λ c. search needs) returns)

@@ -14,8 +14,9 @@ put-head-requires c κs =
 
 put-rows-requires : tie.Need-put-rows-requires
 put-rows-requires c κs =
-    let g = c .before .before .before .before .before .before .before .before .before .args in
-    let p = c .before .before .before .before .before .before .before .before .before .pre in
+    let start = c .before .before .before .before .before .before .before .before .before in
+    let g = start .args in
+    let p = start .pre in
     (p .0, p .1, p .2, omega (arith, rows-text-parts (g .rows) (g .n) (g .ordered) (g .times .now) (g .sides .now) (g .values .now)))
 
 put-ordered-requires : tie.Need-put-ordered-requires
@@ -26,9 +27,11 @@ put-ordered-requires c κs =
 returns : tie.Need-returns
 unfolding rowsText
 returns c =
+    let at-put-rows = c .before .before .before .before .before .before in
+    let at-put-head = at-put-rows .before .before .before .before in
     wrote-both
-    (wrote-both (c .before .before .before .before .before .before .before .before .before .before .put-head .ensures)
-    (c .before .before .before .before .before .before .put-rows .ensures))
+    (wrote-both (at-put-head .put-head .ensures)
+    (at-put-rows .put-rows .ensures))
     (c .before .before .put-ordered .ensures)
 
 pub put-run-spec : {M : Type 1} → statement M

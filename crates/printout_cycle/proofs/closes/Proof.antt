@@ -23,9 +23,14 @@ loop-holds c = (omega arith, refl)
 
 loop-again : tie.Need-loop-again Inv-loop μ-loop
 loop-again c =
-    let s = c .before .before .before .before .before .before .before .before .before in
-    let l = c .before .before .before .before .before .loop in
-    (omega arith, ap₂ _&&_ (l .inv .1) (c .state-closes .ensures) ∙ closes-more (s .args .tolerance) (l .k) (s .args .starts .now) (s .args .ends .now) (s .args .residual .now) (omega arith) (omega arith) (omega arith))
+    let at-loop = c .before .before .before .before .before in
+    let s = at-loop .before .before .before .before in
+    let l = at-loop .loop in (
+      omega arith,
+      ap₂ _&&_ (l .inv .1) (c .state-closes .ensures)
+          ∙ closes-more (s .args .tolerance) (l .k) (s .args .starts .now) (s .args .ends .now) (s .args .residual .now) (omega arith)
+          (omega arith) (omega arith),
+    )
 
 returns : tie.Need-returns Inv-loop μ-loop
 returns c = rw (le-antisymm (c .before .loop .inv .0) (c .loop-test .left)) at (c .before .loop .inv .1)
@@ -34,4 +39,5 @@ pub closes-spec : {M : Type 1} → statement M
 closes-spec =
     tie.close
     (tie.spec
-    Inv-loop μ-loop loop-holds (λ c. search needs) (λ c. search needs) (λ c. search needs) (λ c. search needs) (λ c. search needs) (λ c. search needs) (λ c κs. search needs) (λ c. search needs) (λ c. search needs) loop-again returns)
+    Inv-loop μ-loop loop-holds (λ c. search needs) (λ c. search needs) (λ c. search needs) (λ c. search needs) (λ c. search needs)
+    (λ c. search needs) (λ c κs. search needs) (λ c. search needs) (λ c. search needs) loop-again returns)

@@ -8,11 +8,15 @@ use Rattle.printout_cycle.proofs.put_field.Statement.{statement}
 use Rattle.printout_cycle.proofs.put_field.Tie as tie
 
 put-text-requires : tie.Need-put-text-requires
-put-text-requires c κs = omega (arith, double-length (c .before .before .before .before .before .before .before .args .x))
+put-text-requires c κs =
+    let start = c .before .before .before .before .before .before .before in
+    omega (arith, double-length (start .args .x))
 
 returns : tie.Need-returns
 unfolding fieldText
-returns c = wrote-both (c .before .before .before .before .before .before .before .put-bits .ensures) (c .before .before .put-text .ensures)
+returns c =
+    let at-put-bits = c .before .before .before .before .before .before .before in
+    wrote-both (at-put-bits .put-bits .ensures) (c .before .before .put-text .ensures)
 
 pub put-field-spec : {M : Type 1} → statement M
 put-field-spec =

@@ -23,14 +23,19 @@ loop-holds c = (omega arith, wrote-none _ _)
 
 cycle-line-requires : tie.Need-cycle-line-requires Inv-loop μ-loop
 cycle-line-requires c κs =
-    let s = c .before .before .before .before .before .before .before .before in
-    omega (arith, lines-length (s .args .tolerance) (c .before .before .before .before .loop .k) (s .args .starts .now) (s .args .ends .now) (omega arith) (omega arith))
+    let at-loop = c .before .before .before .before in
+    let s = at-loop .before .before .before .before in
+    omega (arith, lines-length (s .args .tolerance) (at-loop .loop .k) (s .args .starts .now) (s .args .ends .now) (omega arith) (omega arith))
 
 loop-again : tie.Need-loop-again Inv-loop μ-loop
 loop-again c =
-    let s = c .before .before .before .before .before .before .before .before .before .before .before in
-    let l = c .before .before .before .before .before .before .before .loop in
-    (omega arith, rw (lines-more (s .args .tolerance) (l .k) (s .args .starts .now) (s .args .ends .now) (omega arith) (omega arith)) at (wrote-both (l .inv .1) (c .before .before .cycle-line .ensures)))
+    let at-loop = c .before .before .before .before .before .before .before in
+    let s = at-loop .before .before .before .before in
+    let l = at-loop .loop in (
+      omega arith,
+      rw (lines-more (s .args .tolerance) (l .k) (s .args .starts .now) (s .args .ends .now) (omega arith) (omega arith)) at
+          (wrote-both (l .inv .1) (c .before .before .cycle-line .ensures)),
+    )
 
 same-length : tie.Need-same-length Inv-loop μ-loop
 same-length c = c .before .loop .inv .1 .same
@@ -42,4 +47,5 @@ pub put-lines-spec : {M : Type 1} → statement M
 put-lines-spec =
     tie.close
     (tie.spec
-    Inv-loop μ-loop loop-holds (λ c. search needs) (λ c. search needs) (λ c. search needs) (λ c. search needs) cycle-line-requires (λ c. search needs) (λ c. search needs) loop-again same-length returns)
+    Inv-loop μ-loop loop-holds (λ c. search needs) (λ c. search needs) (λ c. search needs) (λ c. search needs) cycle-line-requires
+    (λ c. search needs) (λ c. search needs) loop-again same-length returns)

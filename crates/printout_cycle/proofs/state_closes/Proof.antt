@@ -7,7 +7,9 @@ use Rattle.printout_cycle.proofs.state_closes.Tie as tie
 
 returns : tie.Need-returns
 unfolding stateCloses ofBits
-returns c = rw (c .before .before .is-finite .ensures, c .before .before .before .before .scale .ensures, c .before .before .before .scaled .ensures, c .before .bits .ensures, c .bits2 .ensures)
+returns c =
+    let at-scaled = c .before .before .before in
+    rw (c .before .before .is-finite .ensures, at-scaled .before .scale .ensures, at-scaled .scaled .ensures, c .before .bits .ensures, c .bits2 .ensures)
 
 pub state-closes-spec : {M : Type 1} → statement M
 state-closes-spec =

@@ -9,7 +9,8 @@ use Rattle.printout_lines.proofs.put_head.Statement.{statement}
 use Rattle.printout_lines.proofs.put_head.Tie as tie
 
 put-text-requires : tie.Need-put-text-requires
-put-text-requires c κs = omega (arith, head-length (c .before .before .before .args .rows))
+put-text-requires c κs =
+    omega (arith, head-length (c .before .before .before .args .rows))
 
 put-decimal-requires : tie.Need-put-decimal-requires
 put-decimal-requires c κs =

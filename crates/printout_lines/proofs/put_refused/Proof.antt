@@ -8,7 +8,9 @@ use Rattle.printout_lines.proofs.put_refused.Statement.{statement}
 use Rattle.printout_lines.proofs.put_refused.Tie as tie
 
 put-text-requires : tie.Need-put-text-requires
-put-text-requires c κs = let l = refused-parts (c .before .before .before .args .number) (c .before .before .before .args .time) in omega arith
+put-text-requires c κs =
+    let start = c .before .before .before in
+    let l = refused-parts (start .args .number) (start .args .time) in omega arith
 
 put-decimal-requires : tie.Need-put-decimal-requires
 put-decimal-requires c κs =
@@ -30,7 +32,8 @@ put-bits-requires c κs =
 
 put-text-requires-3 : tie.Need-put-text-requires-3
 put-text-requires-3 c κs =
-    let g = c .before .before .before .before .before .before .before .before .before .before .before .before .before .before .before .before .before .before .before .before .before .args in
+    let g = c .before .before .before .before .before .before .before .before .before .before .before .before .before .before .before
+    .before .before .before .before .before .before .args in
     let l = refused-parts (g .number) (g .time) in
     omega arith
 
@@ -40,7 +43,8 @@ returns c =
     let d = c .before .before .before .before .before .before .before in
     let b = d .before .before .before .before .before .before .before .before .before in
     let first = wrote-both (b .before .before .before .before .put-text .ensures) (b .put-decimal .ensures) in
-    wrote-both (wrote-both (wrote-both first (d .before .before .before .before .put-text2 .ensures)) (d .put-bits .ensures)) (c .before .before .put-text3 .ensures)
+    wrote-both (wrote-both (wrote-both first (d .before .before .before .before .put-text2 .ensures)) (d .put-bits .ensures))
+    (c .before .before .put-text3 .ensures)
 
 pub put-refused-spec : {M : Type 1} → statement M
 put-refused-spec =

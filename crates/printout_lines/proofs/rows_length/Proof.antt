@@ -22,20 +22,27 @@ unfolding rowsLength
 loop-holds c = (omega arith, refl)
 
 add-sum : tie.Need-add-sum Inv-loop μ-loop
-add-sum c = omega (arith, side-most (getD (c .before .before .before .before .before .args .sides .now) (c .before .before .before .loop .k) 0))
+add-sum c =
+    let at-loop = c .before .before .before in
+    omega (arith, side-most (getD (at-loop .before .before .args .sides .now) (at-loop .loop .k) 0))
 
 add-sum-2 : tie.Need-add-sum-2 Inv-loop μ-loop
-add-sum-2 c = omega (arith, side-most (getD (c .before .before .before .before .before .args .sides .now) (c .before .before .before .loop .k) 0))
+add-sum-2 c =
+    let at-loop = c .before .before .before in
+    omega (arith, side-most (getD (at-loop .before .before .args .sides .now) (at-loop .loop .k) 0))
 
 add-sum-3 : tie.Need-add-sum-3 Inv-loop μ-loop
 add-sum-3 c =
-    let g = c .before .before .before .before .before .args in
-    let l = c .before .before .before .loop in
-    omega (arith, side-most (getD (g .sides .now) (l .k) 0), rows-most (g .n) (g .sides .now) (l .k) (c .before .before .before .before .before .pre .1))
+    let at-loop = c .before .before .before in
+    let start = at-loop .before .before in
+    let g = start .args in
+    let l = at-loop .loop in
+    omega (arith, side-most (getD (g .sides .now) (l .k) 0), rows-most (g .n) (g .sides .now) (l .k) (start .pre .1))
 
 loop-again : tie.Need-loop-again Inv-loop μ-loop
 unfolding rowsLength
-loop-again c = (omega arith, rw (add-one, c .side-length .ensures, c .before .before .before .loop .inv .1))
+loop-again c =
+    (omega arith, rw (add-one, c .side-length .ensures, c .before .before .before .loop .inv .1))
 
 returns : tie.Need-returns Inv-loop μ-loop
 returns c = rw (le-antisymm (c .before .loop .inv .0) (c .loop-test .left)) at (c .before .loop .inv .1)

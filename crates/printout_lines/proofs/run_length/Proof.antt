@@ -9,15 +9,18 @@ use Rattle.printout_lines.proofs.run_length.Statement.{statement}
 use Rattle.printout_lines.proofs.run_length.Tie as tie
 
 add-result : tie.Need-add-result
-add-result c = omega (arith, places-most 19 (c .before .before .before .args .rows))
+add-result c =
+    omega (arith, places-most 19 (c .before .before .before .args .rows))
 
 add-result-2 : tie.Need-add-result-2
 add-result-2 c =
-    let g = c .before .before .before .before .args in
-    omega (arith, places-most 19 (g .rows), rows-most (g .n) (g .sides .now) (g .rows) (c .before .before .before .before .pre .1))
+    let start = c .before .before .before .before in
+    let g = start .args in
+    omega (arith, places-most 19 (g .rows), rows-most (g .n) (g .sides .now) (g .rows) (start .pre .1))
 
 add-result-3 : tie.Need-add-result-3
-add-result-3 c = omega (arith, places-most 19 (c .before .before .before .args .number))
+add-result-3 c =
+    omega (arith, places-most 19 (c .before .before .before .args .number))
 
 returns : tie.Need-returns
 unfolding textLength

@@ -21,7 +21,14 @@ returns : tie.Need-returns Inv-loop μ-loop
 returns c = omega (arith, places-last (c .before .before .loop .most) (c .before .before .loop .left) (c .if1 .taken))
 
 loop-again : tie.Need-loop-again Inv-loop μ-loop
-loop-again c = (omega arith, omega (arith, places-more (c .before .before .loop .most) (c .before .before .loop .left) (c .if1 .left) (c .before .loop-test .taken)))
+loop-again c = (
+  omega arith,
+  omega (
+    arith,
+    places-more (c .before .before .loop .most) (c .before .before .loop .left) (c .if1 .left)
+        (c .before .loop-test .taken),
+  ),
+)
 
 returns-2 : tie.Need-returns-2 Inv-loop μ-loop
 returns-2 c = omega (arith, places-end (c .before .loop .most) (c .before .loop .left) (c .loop-test .left))

@@ -6,7 +6,8 @@ use Rattle.printout_numbers.proofs.put_bits.Tie as tie
 
 returns : tie.Need-returns
 unfolding doubleText hexadecimal
-returns c = rw (← c .before .before .before .bits .ensures) (c .before .before .put-digits .ensures)
+returns c =
+    rw (← c .before .before .before .bits .ensures) (c .before .before .put-digits .ensures)
 
 pub put-bits-spec : {M : Type 1} → statement M
 put-bits-spec = tie.close (tie.spec (λ c κs. search needs) (λ c κs. search needs) (λ c. search needs) returns)

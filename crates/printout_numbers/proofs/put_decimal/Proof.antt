@@ -9,11 +9,13 @@ use Rattle.printout_numbers.proofs.put_decimal.Tie as tie
 put-digits-requires : tie.Need-put-digits-requires
 put-digits-requires c κs =
     let l = decimal-length (c .before .before .before .args .word) in
-    let e = c .places .ensures in (omega arith, omega arith, omega arith)
+    let e = c .places .ensures in
+    (omega arith, omega arith, omega arith)
 
 returns : tie.Need-returns
 unfolding decimal
-returns c = rw (← c .before .before .before .places .ensures) (c .before .before .put-digits .ensures)
+returns c =
+    rw (← c .before .before .before .places .ensures) (c .before .before .put-digits .ensures)
 
 pub put-decimal-spec : {M : Type 1} → statement M
 put-decimal-spec = tie.close (tie.spec (λ c κs. search needs) put-digits-requires (λ c. search needs) returns)

@@ -12,7 +12,8 @@ use Rattle.printout_numbers.proofs.put_digits.Statement.{statement}
 use Rattle.printout_numbers.proofs.put_digits.Tie as tie
 
 abbrev Inv-loop : tie.InvT-loop
-Inv-loop out₀ at base count word left₀ i₀ out left i = (i ≤ count) × (length out ≡ length out₀) × (sets out at (digits base i left) ≡ sets out₀ at (digits base count word))
+Inv-loop out₀ at base count word left₀ i₀ out left i =
+    (i ≤ count) × (length out ≡ length out₀) × (sets out at (digits base i left) ≡ sets out₀ at (digits base count word))
 
 abbrev μ-loop : tie.MeasureT-loop
 μ-loop out₀ at base count word left₀ i₀ out left i = i
@@ -21,7 +22,8 @@ loop-holds : tie.Need-loop-holds Inv-loop μ-loop
 loop-holds c = (omega arith, refl, refl)
 
 digit-requires : tie.Need-digit-requires Inv-loop μ-loop
-digit-requires c κs = omega (arith, mod-lt (c .before .loop .left) {m = c .before .before .before .args .base} (omega arith))
+digit-requires c κs =
+    omega (arith, mod-lt (c .before .loop .left) {m = c .before .before .before .args .base} (omega arith))
 
 loop-again : tie.Need-loop-again Inv-loop μ-loop
 loop-again c =

@@ -23,8 +23,9 @@ loop-holds c = (omega arith, wrote-none _ _)
 
 put-amount-requires : tie.Need-put-amount-requires Inv-loop μ-loop
 put-amount-requires c κs =
-    let xs = c .before .before .before .before .before .before .args .amounts .now in
-    let l = c .before .before .before .loop in
+    let at-loop = c .before .before .before in
+    let xs = at-loop .before .before .before .args .amounts .now in
+    let l = at-loop .loop in
     omega (arith, amounts-length (take (l .i) xs), length-take-le (l .i) xs (l .inv .0))
 
 loop-again : tie.Need-loop-again Inv-loop μ-loop

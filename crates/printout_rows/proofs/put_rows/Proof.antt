@@ -34,26 +34,35 @@ add-end c =
 mul-row-line-2 : tie.Need-mul-row-line-2 Inv-loop μ-loop
 mul-row-line-2 c =
     let s = c .before .before .before .before .before .before .before .before .before in
-    omega (arith, row-room (c .before .before .before .before .loop .k) (s .args .n) (s .args .values .now) (c .before .before .before .loop-test .taken) (s .pre .2))
+    omega (
+      arith,
+      row-room (c .before .before .before .before .loop .k) (s .args .n) (s .args .values .now)
+          (c .before .before .before .loop-test .taken) (s .pre .2),
+    )
 
 part-row-line-end : tie.Need-part-row-line-end Inv-loop μ-loop
 part-row-line-end c =
-    let s = c .before .before .before .before .before .before .before .before .before in
-    row-room (c .before .before .before .before .loop .k) (s .args .n) (s .args .values .now) (c .before .before .before .loop-test .taken) (s .pre .2)
+    let at-loop-test = c .before .before .before in
+    let at-loop = at-loop-test .before in
+    let s = at-loop .before .before .before .before .before in
+    row-room (at-loop .loop .k) (s .args .n) (s .args .values .now) (at-loop-test .loop-test .taken) (s .pre .2)
 
 row-line-requires : tie.Need-row-line-requires Inv-loop μ-loop
 row-line-requires c κs =
-    let s = c .before .before .before .before .before .before .before .before .before .before in
+    let at-loop-test = c .before .before .before .before in
+    let at-loop = at-loop-test .before in
+    let s = at-loop .before .before .before .before .before in
     let g = s .args in
-    let l = c .before .before .before .before .before .loop in
-    let more = rows-below (g .n) (g .times .now) (g .sides .now) (g .values .now) (l .k) (g .rows) (c .before .before .before .before .loop-test .taken) in
+    let l = at-loop .loop in
+    let more = rows-below (g .n) (g .times .now) (g .sides .now) (g .values .now) (l .k) (g .rows) (at-loop-test .loop-test .taken) in
     rw (part-size (l .k * g .n) (g .n)) (omega (arith, s .pre .3))
 
 loop-again : tie.Need-loop-again Inv-loop μ-loop
 unfolding rowLines
 loop-again c =
-    let g = c .before .before .before .before .before .before .before .before .before .before .before .before .before .args in
-    let l = c .before .before .before .before .before .before .before .before .loop in (
+    let at-loop = c .before .before .before .before .before .before .before .before in
+    let g = at-loop .before .before .before .before .before .args in
+    let l = at-loop .loop in (
       omega arith,
       rw add-one (wrote-both (l .inv .1) (rw (part-size (l .k * g .n) (g .n)) at (c .before .before .row-line .ensures))),
     )

@@ -8,7 +8,9 @@ use Rattle.printout_rows.proofs.row_line.Statement.{statement}
 use Rattle.printout_rows.proofs.row_line.Tie as tie
 
 put-bits-requires : tie.Need-put-bits-requires
-put-bits-requires c κs = let l = row-parts (c .before .before .before .args .time) (c .before .before .before .args .side) (c .before .before .before .args .amounts .now) in omega arith
+put-bits-requires c κs =
+    let start = c .before .before .before in
+    let l = row-parts (start .args .time) (start .args .side) (start .args .amounts .now) in omega arith
 
 put-text-requires : tie.Need-put-text-requires
 put-text-requires c κs =
@@ -30,7 +32,8 @@ put-amounts-requires c κs =
 
 put-text-requires-2 : tie.Need-put-text-requires-2
 put-text-requires-2 c κs =
-    let g = c .before .before .before .before .before .before .before .before .before .before .before .before .before .before .before .before .before .before .before .before .before .args in
+    let g = c .before .before .before .before .before .before .before .before .before .before .before .before .before .before .before
+    .before .before .before .before .before .before .args in
     let l = row-parts (g .time) (g .side) (g .amounts .now) in
     omega arith
 
@@ -40,7 +43,8 @@ returns c =
     let d = c .before .before .before .before .before .before .before in
     let b = d .before .before .before .before .before .before .before .before in
     let first = wrote-both (b .before .before .before .before .before .put-bits .ensures) (b .put-text .ensures) in
-    wrote-both (wrote-both (wrote-both first (d .before .before .before .before .put-side .ensures)) (d .put-amounts .ensures)) (c .before .before .put-text2 .ensures)
+    wrote-both (wrote-both (wrote-both first (d .before .before .before .before .put-side .ensures)) (d .put-amounts .ensures))
+    (c .before .before .put-text2 .ensures)
 
 pub row-line-spec : {M : Type 1} → statement M
 row-line-spec =

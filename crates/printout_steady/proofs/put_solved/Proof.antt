@@ -14,7 +14,9 @@ put-max-requires c κs =
 
 returns : tie.Need-returns
 unfolding solvedText
-returns c = wrote-both (c .before .before .before .before .before .before .put-states .ensures) (c .before .before .put-max .ensures)
+returns c =
+    let at-put-states = c .before .before .before .before .before .before in
+    wrote-both (at-put-states .put-states .ensures) (c .before .before .put-max .ensures)
 
 pub put-solved-spec : {M : Type 1} → statement M
 put-solved-spec = tie.close (tie.spec (λ c κs. search needs) put-max-requires (λ c. search needs) returns)

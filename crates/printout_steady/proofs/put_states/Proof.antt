@@ -23,15 +23,19 @@ loop-holds c = (omega arith, wrote-none _ _)
 
 state-line-requires : tie.Need-state-line-requires Inv-loop μ-loop
 state-line-requires c κs =
-    let s = c .before .before .before .before .before .before .before .before in
-    let k = c .before .before .before .before .loop .k in
-    omega (arith, lines-length k (s .args .amounts .now) (s .args .residual .now) (omega arith) (omega arith))
+    let at-loop = c .before .before .before .before in
+    let s = at-loop .before .before .before .before in
+    omega (arith, lines-length (at-loop .loop .k) (s .args .amounts .now) (s .args .residual .now) (omega arith) (omega arith))
 
 loop-again : tie.Need-loop-again Inv-loop μ-loop
 loop-again c =
-    let s = c .before .before .before .before .before .before .before .before .before .before .before in
-    let l = c .before .before .before .before .before .before .before .loop in
-    (omega arith, rw (lines-more (l .k) (s .args .amounts .now) (s .args .residual .now) (omega arith) (omega arith)) at (wrote-both (l .inv .1) (c .before .before .state-line .ensures)))
+    let at-loop = c .before .before .before .before .before .before .before in
+    let s = at-loop .before .before .before .before in
+    let l = at-loop .loop in (
+      omega arith,
+      rw (lines-more (l .k) (s .args .amounts .now) (s .args .residual .now) (omega arith) (omega arith)) at
+          (wrote-both (l .inv .1) (c .before .before .state-line .ensures)),
+    )
 
 same-length : tie.Need-same-length Inv-loop μ-loop
 same-length c = c .before .loop .inv .1 .same
@@ -43,5 +47,6 @@ pub put-states-spec : {M : Type 1} → statement M
 put-states-spec =
     tie.close
     (tie.spec
-    Inv-loop μ-loop loop-holds (λ c. search needs) (λ c. search needs) (λ c. search needs) (λ c. search needs) state-line-requires (λ c. search needs) (λ c. search needs)
+    Inv-loop μ-loop loop-holds (λ c. search needs) (λ c. search needs) (λ c. search needs) (λ c. search needs) state-line-requires
+    (λ c. search needs) (λ c. search needs)
     loop-again same-length returns)

@@ -43,7 +43,8 @@ next : (c : tie.After-digit Inv-loop μ-loop)
     (numberFrom (at .loop .value * 16 + c .digit .result) (drop (at .loop .i + 1) word))
     Malformed
     ≡ numberOf word
-next c = sym (step _ _ _ _ (c .before .before .loop-test .taken) (c .digit .ensures)) ∙ c .before .before .before .loop .inv .1
+next c =
+    sym (step _ _ _ _ (c .before .before .loop-test .taken) (c .digit .ensures)) ∙ c .before .before .before .loop .inv .1
 
 returns-2 : tie.Need-returns-2 Inv-loop μ-loop
 returns-2 c = rw (le-ltb _ _ (c .if2 .taken)) at (next (c .before))

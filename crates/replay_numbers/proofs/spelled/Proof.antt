@@ -17,7 +17,8 @@ returns-2 c = simp (lt-ltb 0 (length (c .before .before .args .word .now)) (omeg
 
 returns-3 : tie.Need-returns-3
 unfolding spelled
-returns-3 c = simp (lt-ltb 0 (length (c .before .before .before .args .word .now)) (omega arith), ne-eqb _ 1 (c .before .if2 .left))
+returns-3 c =
+    simp (lt-ltb 0 (length (c .before .before .before .args .word .now)) (omega arith), ne-eqb _ 1 (c .before .if2 .left))
 
 pub spelled-spec : {M : Type 1} → statement M
 spelled-spec = tie.close (tie.spec returns returns-2 (λ c. search needs) returns-3)

@@ -15,28 +15,44 @@ use Rattle.rig_cycle_sheet.proofs.next_bodies.Tie as tie
 
 print-next-requires : tie.Need-print-next-requires
 print-next-requires c κs =
-    let s = c .before .before .before .before .before .before .before .before .before .before .before .before .before .before .before .before .before .before .before .before .before .before .before .before .before .before .before .before .before .before in
+    let at-if1 = c .before .before .before .before .before .before .before in
+    let at-number = at-if1 .before in
+    let at-refusal-of = at-number .before in
+    let at-readings = at-refusal-of .before .before .before .before .before .before in
+    let at-solve-bodies = at-readings .before in
+    let s = at-solve-bodies .before .before .before .before .before .before .before .before .before .before .before .before .before .before in
     let g = s .args in
     let k = steady-kept (g .kernel) (wordsOf (g .window .now)) (wordsOf (g .samples .now)) (wordsOf (g .events .now)) (s .pre .0) in
     let o = steadyWith (g .kernel) (wordsOf (g .window .now)) (wordsOf (g .samples .now)) (wordsOf (g .events .now)) in
-    let v = told-solved (stateCount (g .kernel)) o k (c .before .before .before .before .before .before .before .before .before .before .before .before .before .before .before .before .solve-bodies .ensures) (sym (c .before .before .before .before .before .before .before .before .number .ensures ∙ c .before .before .before .before .before .before .before .before .before .refusal-of .ensures .0) ∙ c .before .before .before .before .before .before .before .if1 .taken) (s .pre .5) (s .pre .6) in
-    (s .pre .0, s .pre .1, s .pre .2, s .pre .3, c .before .before .before .before .before .before .before .before .before .before .before .before .before .before .before .readings .given ∙ s .pre .4, v, s .pre .7, s .pre .8, s .pre .9)
+    let v = told-solved (stateCount (g .kernel)) o k (at-solve-bodies .solve-bodies .ensures)
+    (sym (at-number .number .ensures ∙ at-refusal-of .refusal-of .ensures .0) ∙ at-if1 .if1 .taken) (s .pre .5) (s .pre .6) in
+    (s .pre .0, s .pre .1, s .pre .2, s .pre .3, at-readings .readings .given ∙ s .pre .4, v, s .pre .7, s .pre .8, s .pre .9)
 
 returns-2 : tie.Need-returns-2
 returns-2 c =
-    let s = c .before .before .before .before .before .before .before .before .before .before .before .before .before .before .before .before .before .before .before .before .before .before .before .before .before .before .before .before .before .before in
+    let at-print-steady = c .before .before .before in
+    let at-if1 = at-print-steady .before .before .before .before in
+    let at-number = at-if1 .before in
+    let at-refusal-of = at-number .before in
+    let at-solve-bodies = at-refusal-of .before .before .before .before .before .before .before in
+    let s = at-solve-bodies .before .before .before .before .before .before .before .before .before .before .before .before .before .before in
     let g = s .args in
     let k = steady-kept (g .kernel) (wordsOf (g .window .now)) (wordsOf (g .samples .now)) (wordsOf (g .events .now)) (s .pre .0) in
     let o = steadyWith (g .kernel) (wordsOf (g .window .now)) (wordsOf (g .samples .now)) (wordsOf (g .events .now)) in
-    let m = c .before .before .before .before .before .before .before .before .number .ensures in
-    let p = rw m at (c .before .before .before .print-steady .ensures) in
-    let e = c .before .before .before .before .before .before .before .before .before .refusal-of .ensures in
-    let h = c .before .before .before .before .before .before .before .if1 .left in
-    let q = told-refused (stateCount (g .kernel)) o k (c .before .before .before .before .before .before .before .before .before .before .before .before .before .before .before .before .solve-bodies .ensures) (λ z. h (m ∙ e .0 ∙ z)) ∙ ap₂ (λ (j : ℕ) (t : Float). stopped j t) (sym (e .0)) (sym (e .1)) in
-    refused-prints (next-stops (g .kernel) (wordsOf (g .window .now)) (wordsOf (g .samples .now)) (wordsOf (g .events .now)) q) (λ z. h (m ∙ z)) _ [] [] (c .reply-of .ensures .0) (c .reply-of .ensures .1) (p .0) (p .1)
+    let m = at-number .number .ensures in
+    let p = rw m at (at-print-steady .print-steady .ensures) in
+    let e = at-refusal-of .refusal-of .ensures in
+    let h = at-if1 .if1 .left in
+    let q = told-refused (stateCount (g .kernel)) o k (at-solve-bodies .solve-bodies .ensures) (λ z. h (m ∙ e .0 ∙ z))
+    ∙ ap₂ (λ (j : ℕ) (t : Float). stopped j t) (sym (e .0)) (sym (e .1)) in
+    refused-prints (next-stops (g .kernel) (wordsOf (g .window .now)) (wordsOf (g .samples .now)) (wordsOf (g .events .now)) q)
+    (λ z. h (m ∙ z)) _ [] [] (c .reply-of .ensures .0) (c .reply-of .ensures .1) (p .0) (p .1)
 
 pub next-bodies-spec : {M : Type 1} → statement M
 next-bodies-spec =
     tie.close
     (tie.spec
-    (λ c κs. search needs) (λ c κs. search needs) (λ c κs. search needs) print-next-requires (λ c. search needs) (λ c. search needs) (λ c. search needs) (λ c. search needs) (λ c. search needs) (λ c. search needs) (λ c. search needs) (λ c. search needs) (λ c κs. search needs) (λ c κs. search needs) (λ c. search needs) (λ c. search needs) (λ c. search needs) (λ c. search needs) returns-2)
+    (λ c κs. search needs) (λ c κs. search needs) (λ c κs. search needs) print-next-requires (λ c. search needs) (λ c. search needs)
+    (λ c. search needs) (λ c. search needs) (λ c. search needs) (λ c. search needs) (λ c. search needs) (λ c. search needs)
+    (λ c κs. search needs) (λ c κs. search needs) (λ c. search needs) (λ c. search needs) (λ c. search needs)
+    (λ c. search needs) returns-2)

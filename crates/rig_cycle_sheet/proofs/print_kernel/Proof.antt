@@ -7,38 +7,57 @@ use Rattle.rig_cycle_sheet.proofs.print_kernel.Statement.{statement}
 use Rattle.rig_cycle_sheet.proofs.print_kernel.Tie as tie
 
 slice-aggregate-next-bodies : tie.Need-slice-aggregate-next-bodies
-slice-aggregate-next-bodies c = sym (length-take-le _ _ (omega (arith, c .before .before .before .before .before .before .before .before .before .before .pre .3, c .before .before .before .before .sample-cells .ensures)))
+slice-aggregate-next-bodies c =
+    let at-sample-cells = c .before .before .before .before in
+    let start = at-sample-cells .before .before .before .before .before .before in
+    sym (length-take-le _ _ (omega (arith, start .pre .3, at-sample-cells .sample-cells .ensures)))
 
 array-borrow-prefix-amounts : tie.Need-array-borrow-prefix-amounts
-array-borrow-prefix-amounts c = c .before .before .before .before .before .state-count .ensures .1
+array-borrow-prefix-amounts c =
+    let at-state-count = c .before .before .before .before .before in
+    at-state-count .state-count .ensures .1
 
 slice-aggregate-next-bodies-2 : tie.Need-slice-aggregate-next-bodies-2
-slice-aggregate-next-bodies-2 c = sym (length-take-le _ _ (c .before .before .before .before .before .before .state-count .ensures .1))
+slice-aggregate-next-bodies-2 c =
+    let at-state-count = c .before .before .before .before .before .before in
+    sym (length-take-le _ _ (at-state-count .state-count .ensures .1))
 
 array-borrow-prefix-residual : tie.Need-array-borrow-prefix-residual
-array-borrow-prefix-residual c = c .before .before .before .before .before .before .state-count .ensures .1
+array-borrow-prefix-residual c =
+    let at-state-count = c .before .before .before .before .before .before in
+    at-state-count .state-count .ensures .1
 
 slice-aggregate-next-bodies-3 : tie.Need-slice-aggregate-next-bodies-3
-slice-aggregate-next-bodies-3 c = sym (length-take-le _ _ (c .before .before .before .before .before .before .before .state-count .ensures .1))
+slice-aggregate-next-bodies-3 c =
+    let at-state-count = c .before .before .before .before .before .before .before in
+    sym (length-take-le _ _ (at-state-count .state-count .ensures .1))
 
 next-bodies-requires : tie.Need-next-bodies-requires
 next-bodies-requires c κs =
-    let h = c .before .before .before .before .before .before .before .before .before .before .before .before .before .before .before .before .pre in
-    let n = c .before .before .before .before .before .before .before .before .before .before .before .state-count .ensures in (
+    let at-value-cells = c .before .before .before .before .before .before .before in
+    let at-side-cells = at-value-cells .before in
+    let at-time-cells = at-side-cells .before in
+    let at-sample-cells = at-time-cells .before in
+    let at-state-count = at-sample-cells .before in
+    let h = at-state-count .before .before .before .before .before .pre in
+    let n = at-state-count .state-count .ensures in (
       h .0,
       h .1,
       h .2,
       h .3,
-      length-take-le _ _ (omega (arith, h .3, c .before .before .before .before .before .before .before .before .before .before .sample-cells .ensures)),
+      length-take-le _ _ (omega (arith, h .3, at-sample-cells .sample-cells .ensures)),
       length-take-le _ _ (n .1) ∙ n .0,
       length-take-le _ _ (n .1) ∙ n .0,
-      omega (arith, c .before .before .before .before .before .before .before .before .before .time-cells .ensures),
-      omega (arith, c .before .before .before .before .before .before .before .before .side-cells .ensures),
-      omega (arith, c .before .before .before .before .before .before .before .value-cells .ensures),
+      omega (arith, at-time-cells .time-cells .ensures),
+      omega (arith, at-side-cells .side-cells .ensures),
+      omega (arith, at-value-cells .value-cells .ensures),
     )
 
 pub print-kernel-spec : {M : Type 1} → statement M
 print-kernel-spec =
     tie.close
     (tie.spec
-    (λ c κs. search needs) (λ c κs. search needs) (λ c κs. search needs) (λ c κs. search needs) (λ c κs. search needs) (λ c. search needs) slice-aggregate-next-bodies array-borrow-prefix-amounts slice-aggregate-next-bodies-2 array-borrow-prefix-residual slice-aggregate-next-bodies-3 (λ c. search needs) (λ c. search needs) (λ c. search needs) next-bodies-requires (λ c. search needs) (λ c. search needs))
+    (λ c κs. search needs) (λ c κs. search needs) (λ c κs. search needs) (λ c κs. search needs) (λ c κs. search needs)
+    (λ c. search needs) slice-aggregate-next-bodies array-borrow-prefix-amounts slice-aggregate-next-bodies-2
+    array-borrow-prefix-residual slice-aggregate-next-bodies-3 (λ c. search needs) (λ c. search needs)
+    (λ c. search needs) next-bodies-requires (λ c. search needs) (λ c. search needs))

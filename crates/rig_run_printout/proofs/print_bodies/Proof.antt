@@ -6,10 +6,10 @@ use native.Mathlib.Nat.{mul-le-mul-right}
 use Prim.Native.Nat.{ℕ, _*_, _≤_}
 use lib.Dec.{eqb}
 use Rattle.linear_pk.specs.LinearPk.{stateCount}
-use Rattle.protocol.specs.Entry.{Reply}
+use Rattle.protocol.specs.Entry.{RunReport}
 use Rattle.sheet.specs.Sheet.{wordsOf}
 use Rattle.sheet.proofs.Places.{words-length}
-use Rattle.printout.specs.Printouts.{numberOf}
+use Rattle.printout.specs.Printouts.{numberOrShort}
 use Rattle.printout.proofs.Replies.{prints}
 use Rattle.rig_run_sheet.specs.SheetRun.{reckonedOf}
 use Rattle.rig_run_sheet.proofs.Words.{reckoned-words}
@@ -19,32 +19,52 @@ use Rattle.rig_run_printout.proofs.print_bodies.Tie as tie
 
 print-run-requires : tie.Need-print-run-requires
 print-run-requires c κs =
-    let g = c .before .before .before .before .before .before .before .before .before .before .before .before .before .before .before .before .before .before .before .before .before .before .before .before .before .before .before .before .before .before .before .before .before .args in
-    let h = c .before .before .before .before .before .before .before .before .before .before .before .before .before .before .before .before .before .before .before .before .before .before .before .before .before .before .before .before .before .before .before .before .before .pre in
-    let l = rows-within (g .kernel) (wordsOf (g .window .now)) (wordsOf (g .amounts .now)) (wordsOf (g .samples .now)) (wordsOf (g .events .now)) (c .before .before .before .before .before .before .report-of .ensures ∙ c .before .before .before .before .before .before .before .before .before .before .before .before .before .before .before .before .before .simulate-bodies .ensures .0) in
+    let at-state-count = c .before .before .before .before .before in
+    let at-report-of = at-state-count .before in
+    let at-values = at-report-of .before .before in
+    let at-sides = at-values .before .before in
+    let at-times = at-sides .before .before in
+    let at-simulate-bodies = at-times .before .before .before .before .before in
+    let start = at-simulate-bodies .before .before .before .before .before .before .before .before .before .before .before .before .before
+    .before .before .before in
+    let g = start .args in
+    let h = start .pre in
+    let l = rows-within (g .kernel) (wordsOf (g .window .now)) (wordsOf (g .amounts .now)) (wordsOf (g .samples .now))
+    (wordsOf (g .events .now)) (at-report-of .report-of .ensures ∙ at-simulate-bodies .simulate-bodies .ensures .0) in
     let ss = wordsOf (g .samples .now) in
     let es = wordsOf (g .events .now) in
-    let n = c .before .before .before .before .before .state-count .ensures .0 in
-    let m : c .before .before .before .before .before .before .report-of .result .rows * c .before .before .before .before .before .state-count .result ≤ reckonedOf ss es * stateCount (g .kernel) = subst (λ (j : ℕ). c .before .before .before .before .before .before .report-of .result .rows * c .before .before .before .before .before .state-count .result ≤ reckonedOf ss es * j) n (mul-le-mul-right (c .before .before .before .before .before .state-count .result) l) in
+    let m : at-report-of .report-of .result .rows * at-state-count .state-count .result ≤ reckonedOf ss es * stateCount (g .kernel) = subst
+    (λ (j : ℕ). at-report-of .report-of .result .rows * at-state-count .state-count .result ≤ reckonedOf ss es * j) (at-state-count .state-count .ensures .0)
+    (mul-le-mul-right (at-state-count .state-count .result) l) in
     let q = reckoned-words ss es in (
-      omega (arith, l, c .before .before .before .before .before .before .before .before .before .before .before .before .times .given, h .5),
-      omega (arith, l, c .before .before .before .before .before .before .before .before .before .before .sides .given, h .6),
-      omega (arith, m, c .before .before .before .before .before .before .before .before .values .given, h .7),
-      c .before .before .before .before .before .state-count .ensures .1,
+      omega (arith, l, at-times .times .given, h .5),
+      omega (arith, l, at-sides .sides .given, h .6),
+      omega (arith, m, at-values .values .given, h .7),
+      at-state-count .state-count .ensures .1,
       omega (arith, l, q, words-length (g .samples .now), words-length (g .events .now), h .1, h .2),
     )
 
 returns : tie.Need-returns
 returns c =
-    let g = c .before .before .before .before .before .before .before .before .before .before .before .before .before .before .before .before .before .before .before .before .before .before .before .before .before .before .before .before .before .before .before .before .before .before .before .before .before .before .args in
-    let b = c .before .before .before .before .before .before .before .before .before .before .before .before .before .before .before .before .before .before .before .before .before .before .simulate-bodies .ensures in
-    let e = c .before .before .before .before .before .before .before .before .before .before .before .report-of .ensures in
-    let p = c .before .before .before .before .print-run .ensures in
-    prints (run-text (g .kernel) (wordsOf (g .window .now)) (wordsOf (g .amounts .now)) (wordsOf (g .samples .now)) (wordsOf (g .events .now)) (e ∙ b .0) (g .times .now) (g .sides .now) (g .values .now) (c .before .before .before .before .before .before .before .before .before .before .state-count .ensures .0) (c .before .before .before .before .before .before .before .before .before .ordered .ensures) (b .1 .0) (b .1 .1 .0) (b .1 .1 .1))
-    (text-some _ _) (c .reply-of .ensures .0 ∙ ap (λ (j : ℕ). numberOf j (eqb (c .before .before .before .before .print-run .result) 0)) (c .before .answer-of .ensures ∙ ap (λ (x : Reply). x .number) (b .0))) (c .reply-of .ensures .1) (p .0) (p .1)
+    let at-print-run = c .before .before .before .before in
+    let at-ordered = at-print-run .before .before .before .before .before in
+    let at-state-count = at-ordered .before in
+    let at-report-of = at-state-count .before in
+    let at-simulate-bodies = at-report-of .before .before .before .before .before .before .before .before .before .before .before in
+    let g = at-simulate-bodies .before .before .before .before .before .before .before .before .before .before .before .before .before
+    .before .before .before .args in
+    let b = at-simulate-bodies .simulate-bodies .ensures in
+    let p = at-print-run .print-run .ensures in
+    prints (run-text (g .kernel) (wordsOf (g .window .now)) (wordsOf (g .amounts .now)) (wordsOf (g .samples .now))
+    (wordsOf (g .events .now)) (at-report-of .report-of .ensures ∙ b .0) (g .times .now) (g .sides .now) (g .values .now)
+    (at-state-count .state-count .ensures .0) (at-ordered .ordered .ensures) (b .1 .0) (b .1 .1 .0) (b .1 .1 .1))
+    (text-some _ _) (c .reply-of .ensures .0 ∙ ap (λ (j : ℕ). numberOrShort j (eqb (at-print-run .print-run .result) 0))
+    (c .before .answer-of .ensures ∙ ap (λ (x : RunReport). x .number) (b .0))) (c .reply-of .ensures .1) (p .0) (p .1)
 
 pub print-bodies-spec : {M : Type 1} → statement M
 print-bodies-spec =
     tie.close
     (tie.spec
-    (λ c κs. search needs) (λ c κs. search needs) (λ c κs. search needs) (λ c κs. search needs) print-run-requires (λ c κs. search needs) (λ c κs. search needs) (λ c. search needs) (λ c. search needs) (λ c. search needs) (λ c. search needs) (λ c. search needs) (λ c. search needs) returns)
+    (λ c κs. search needs) (λ c κs. search needs) (λ c κs. search needs) (λ c κs. search needs) print-run-requires (λ c κs. search needs)
+    (λ c κs. search needs) (λ c. search needs) (λ c. search needs) (λ c. search needs) (λ c. search needs) (λ c. search needs)
+    (λ c. search needs) returns)

@@ -5,6 +5,7 @@ use native.Mathlib.Omega.{arith}
 use Prim.Native.Nat.{_+_, _*_, _/_, _≤_}
 use lib.ListN.{length}
 use lib.Seq.{length-take-le}
+use Rattle.limits.specs.Limits.{eventBytes, sheetRows}
 use Rattle.sheet.specs.Sheet.{wordsOf}
 use Rattle.sheet.proofs.Places.{words-length}
 use Rattle.rig_run_sheet.specs.SheetRun.{reckonedOf}
@@ -15,57 +16,97 @@ use Rattle.rig_run_printout.proofs.print_kernel.Tie as tie
 
 mul-cells : tie.Need-mul-cells
 mul-cells c =
-    let h = c .before .before .before .before .before .before .before .pre in
-    omega (arith, cells-most (4 * (length (c .before .before .before .before .before .before .before .args .events .now) / 48) + length (c .before .before .before .before .before .before .before .args .samples .now) / 8 + 2) (c .state-count .result) (omega (arith, h .1, h .2)) (c .state-count .ensures .1))
+    let start = c .before .before .before .before .before .before .before in
+    let h = start .pre in
+    omega (
+      arith,
+      cells-most (4 * (length (start .args .events .now) / eventBytes) + length (start .args .samples .now) / 8 + 2)
+          (c .state-count .result) (omega (arith, h .1, h .2)) (c .state-count .ensures .1),
+    )
 
 array-borrow-prefix-initial : tie.Need-array-borrow-prefix-initial
-array-borrow-prefix-initial c = omega (arith, known-five (length (c .before .before .before .before .before .before .before .before .before .before .before .args .amounts .now) / 8), c .before .before .before .before .before .known .ensures)
+array-borrow-prefix-initial c =
+    let at-known = c .before .before .before .before .before in
+    let start = at-known .before .before .before .before .before .before in
+    omega (arith, known-five (length (start .args .amounts .now) / 8), at-known .known .ensures)
 
 slice-aggregate-print-bodies : tie.Need-slice-aggregate-print-bodies
-slice-aggregate-print-bodies c = sym (length-take-le _ _ (omega (arith, known-five (length (c .before .before .before .before .before .before .before .before .before .before .before .before .args .amounts .now) / 8), c .before .before .before .before .before .before .known .ensures)))
+slice-aggregate-print-bodies c =
+    let at-known = c .before .before .before .before .before .before in
+    let start = at-known .before .before .before .before .before .before in
+    sym (length-take-le _ _ (omega (arith, known-five (length (start .args .amounts .now) / 8), at-known .known .ensures)))
 
 slice-aggregate-print-bodies-2 : tie.Need-slice-aggregate-print-bodies-2
-slice-aggregate-print-bodies-2 c = sym (length-take-le _ _ (omega (arith, c .before .before .before .before .before .before .before .before .before .before .before .before .before .pre .2, c .before .before .before .before .before .sample-cells .ensures)))
+slice-aggregate-print-bodies-2 c =
+    let at-sample-cells = c .before .before .before .before .before in
+    let start = at-sample-cells .before .before .before .before .before .before .before .before in
+    sym (length-take-le _ _ (omega (arith, start .pre .2, at-sample-cells .sample-cells .ensures)))
 
 slice-aggregate-print-bodies-3 : tie.Need-slice-aggregate-print-bodies-3
-slice-aggregate-print-bodies-3 c = sym (length-take-le _ _ (omega (arith, c .before .before .before .before .before .before .before .before .before .before .before .before .before .before .pre .1, c .before .before .before .before .before .before .before .before .before .before .before .before .before .before .pre .2, c .before .before .before .before .before .time-cells .ensures)))
+slice-aggregate-print-bodies-3 c =
+    let at-time-cells = c .before .before .before .before .before in
+    let start = at-time-cells .before .before .before .before .before .before .before .before .before in
+    sym (length-take-le _ _ (omega (arith, start .pre .1, start .pre .2, at-time-cells .time-cells .ensures)))
 
 slice-aggregate-print-bodies-4 : tie.Need-slice-aggregate-print-bodies-4
-slice-aggregate-print-bodies-4 c = sym (length-take-le _ _ (omega (arith, c .before .before .before .before .before .before .before .before .before .before .before .before .before .before .before .pre .1, c .before .before .before .before .before .before .before .before .before .before .before .before .before .before .before .pre .2, c .before .before .before .before .before .side-cells .ensures)))
+slice-aggregate-print-bodies-4 c =
+    let at-side-cells = c .before .before .before .before .before in
+    let start = at-side-cells .before .before .before .before .before .before .before .before .before .before in
+    sym (length-take-le _ _ (omega (arith, start .pre .1, start .pre .2, at-side-cells .side-cells .ensures)))
 
 array-borrow-prefix-values : tie.Need-array-borrow-prefix-values
 array-borrow-prefix-values c =
-    let h = c .before .before .before .before .before .before .before .before .before .before .before .before .before .before .before .pre in
-    omega (arith, cells-most (4 * (length (c .before .before .before .before .before .before .before .before .before .before .before .before .before .before .before .args .events .now) / 48) + length (c .before .before .before .before .before .before .before .before .before .before .before .before .before .before .before .args .samples .now) / 8 + 2) (c .before .before .before .before .before .before .before .before .state-count .result) (omega (arith, h .1, h .2)) (c .before .before .before .before .before .before .before .before .state-count .ensures .1))
+    let at-state-count = c .before .before .before .before .before .before .before .before in
+    let start = at-state-count .before .before .before .before .before .before .before in
+    let h = start .pre in
+    omega (
+      arith,
+      cells-most (4 * (length (start .args .events .now) / eventBytes) + length (start .args .samples .now) / 8 + 2)
+          (at-state-count .state-count .result) (omega (arith, h .1, h .2)) (at-state-count .state-count .ensures .1),
+    )
 
 slice-aggregate-print-bodies-5 : tie.Need-slice-aggregate-print-bodies-5
 slice-aggregate-print-bodies-5 c =
-    let h = c .before .before .before .before .before .before .before .before .before .before .before .before .before .before .before .before .pre in
-    let m = cells-most (4 * (length (c .before .before .before .before .before .before .before .before .before .before .before .before .before .before .before .before .args .events .now) / 48) + length (c .before .before .before .before .before .before .before .before .before .before .before .before .before .before .before .before .args .samples .now) / 8 + 2) (c .before .before .before .before .before .before .before .before .before .state-count .result) (omega (arith, h .1, h .2)) (c .before .before .before .before .before .before .before .before .before .state-count .ensures .1) in
-    sym (length-take-le _ _ (omega (arith, m, c .before .before .before .before .before .value-cells .ensures)))
+    let at-value-cells = c .before .before .before .before .before in
+    let at-state-count = at-value-cells .before .before .before .before in
+    let start = at-state-count .before .before .before .before .before .before .before in
+    let h = start .pre in
+    let m = cells-most (4 * (length (start .args .events .now) / eventBytes) + length (start .args .samples .now) / 8 + 2)
+    (at-state-count .state-count .result) (omega (arith, h .1, h .2)) (at-state-count .state-count .ensures .1) in
+    sym (length-take-le _ _ (omega (arith, m, at-value-cells .value-cells .ensures)))
 
 print-bodies-requires : tie.Need-print-bodies-requires
 print-bodies-requires c κs =
-    let h = c .before .before .before .before .before .before .before .before .before .before .before .before .before .before .before .before .before .pre in
-    let ss = c .before .before .before .before .before .before .before .before .before .before .before .before .before .before .before .before .before .args .samples .now in
-    let es = c .before .before .before .before .before .before .before .before .before .before .before .before .before .before .before .before .before .args .events .now in
-    let n = c .before .before .before .before .before .before .before .before .before .before .state-count in
-    let rows = 4 * (length es / 48) + length ss / 8 + 2 in
-    let few : rows ≤ 514 = omega (arith, h .1, h .2) in
+    let at-value-cells = c .before .before .before .before .before .before in
+    let at-side-cells = at-value-cells .before in
+    let at-time-cells = at-side-cells .before in
+    let at-sample-cells = at-time-cells .before in
+    let at-state-count = at-sample-cells .before in
+    let at-known = at-state-count .before in
+    let start = at-known .before .before .before .before .before .before in
+    let h = start .pre in
+    let ss = start .args .samples .now in
+    let es = start .args .events .now in
+    let n = at-state-count .state-count in
+    let rows = 4 * (length es / eventBytes) + length ss / 8 + 2 in
+    let few : rows ≤ sheetRows = omega (arith, h .1, h .2) in
     let same : rows ≡ reckonedOf (wordsOf ss) (wordsOf es) = omega (arith, words-length ss, words-length es, reckoned-words (wordsOf ss) (wordsOf es)) in (
       h .0,
       h .1,
       h .2,
-      length-take-le _ _ (omega (arith, known-five (length (c .before .before .before .before .before .before .before .before .before .before .before .before .before .before .before .before .before .args .amounts .now) / 8), c .before .before .before .before .before .before .before .before .before .before .before .known .ensures)) ∙ c .before .before .before .before .before .before .before .before .before .before .before .known .ensures,
-      length-take-le _ _ (omega (arith, h .2, c .before .before .before .before .before .before .before .before .before .sample-cells .ensures)),
-      length-take-le _ _ (omega (arith, few, c .before .before .before .before .before .before .before .before .time-cells .ensures)) ∙ same,
-      length-take-le _ _ (omega (arith, few, c .before .before .before .before .before .before .before .side-cells .ensures)) ∙ same,
-      length-take-le _ _ (omega (arith, cells-most rows (n .result) few (n .ensures .1), c .before .before .before .before .before .before .value-cells .ensures)) ∙ ap₂ _*_ same (n .ensures .0),
+      length-take-le _ _ (omega (arith, known-five (length (start .args .amounts .now) / 8), at-known .known .ensures)) ∙ at-known .known .ensures,
+      length-take-le _ _ (omega (arith, h .2, at-sample-cells .sample-cells .ensures)),
+      length-take-le _ _ (omega (arith, few, at-time-cells .time-cells .ensures)) ∙ same,
+      length-take-le _ _ (omega (arith, few, at-side-cells .side-cells .ensures)) ∙ same,
+      length-take-le _ _ (omega (arith, cells-most rows (n .result) few (n .ensures .1), at-value-cells .value-cells .ensures)) ∙ ap₂ _*_ same (n .ensures .0),
     )
 
 pub print-kernel-spec : {M : Type 1} → statement M
 print-kernel-spec =
     tie.close
     (tie.spec
-    (λ c κs. search needs) (λ c. search needs) (λ c. search needs) (λ c. search needs) (λ c κs. search needs) mul-cells (λ c κs. search needs) (λ c κs. search needs) (λ c κs. search needs) (λ c κs. search needs) array-borrow-prefix-initial slice-aggregate-print-bodies (λ c. search needs) slice-aggregate-print-bodies-2
-    (λ c. search needs) slice-aggregate-print-bodies-3 (λ c. search needs) slice-aggregate-print-bodies-4 array-borrow-prefix-values slice-aggregate-print-bodies-5 print-bodies-requires (λ c. search needs) (λ c. search needs))
+    (λ c κs. search needs) (λ c. search needs) (λ c. search needs) (λ c. search needs) (λ c κs. search needs) mul-cells
+    (λ c κs. search needs) (λ c κs. search needs) (λ c κs. search needs) (λ c κs. search needs) array-borrow-prefix-initial
+    slice-aggregate-print-bodies (λ c. search needs) slice-aggregate-print-bodies-2
+    (λ c. search needs) slice-aggregate-print-bodies-3 (λ c. search needs) slice-aggregate-print-bodies-4 array-borrow-prefix-values
+    slice-aggregate-print-bodies-5 print-bodies-requires (λ c. search needs) (λ c. search needs))

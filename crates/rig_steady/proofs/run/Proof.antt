@@ -9,10 +9,27 @@ use Rattle.rig_steady.proofs.run.Statement.{statement}
 use Rattle.rig_steady.proofs.run.Tie as tie
 
 slice-reshare-prefix-write-all : tie.Need-slice-reshare-prefix-write-all
-slice-reshare-prefix-write-all c = omega (arith, c .before .before .steady-sheet .ensures .1 .0, c .before .text .given, printed-within (steadyPrintoutOfBytes (c .before .before .before .before .before .before .args .sheet .now) .text) (c .before .before .before .before .before .before .args .text .now))
+slice-reshare-prefix-write-all c =
+    let start = c .before .before .before .before .before .before in
+    omega (
+      arith,
+      c .before .before .steady-sheet .ensures .1 .0,
+      c .before .text .given,
+      printed-within (steadyPrintoutOfBytes (start .args .sheet .now) .text) (start .args .text .now),
+    )
 
 slice-aggregate-write-all : tie.Need-slice-aggregate-write-all
-slice-aggregate-write-all c = sym (length-take-le _ _ (omega (arith, c .before .before .before .steady-sheet .ensures .1 .0, c .before .before .text .given, printed-within (steadyPrintoutOfBytes (c .before .before .before .before .before .before .before .args .sheet .now) .text) (c .before .before .before .before .before .before .before .args .text .now))))
+slice-aggregate-write-all c =
+    let at-steady-sheet = c .before .before .before in
+    let start = at-steady-sheet .before .before .before .before in
+    sym (length-take-le _ _ (omega (
+      arith,
+      at-steady-sheet .steady-sheet .ensures .1 .0,
+      c .before .before .text .given,
+      printed-within (steadyPrintoutOfBytes (start .args .sheet .now) .text) (start .args .text .now),
+    )))
 
 pub run-spec : {M : Type 1} → statement M
-run-spec = tie.close (tie.spec (λ c κs. search needs) slice-reshare-prefix-write-all slice-aggregate-write-all (λ c κs. search needs) (λ c. search needs) (λ c. search needs))
+run-spec =
+    tie.close (tie.spec (λ c κs. search needs) slice-reshare-prefix-write-all slice-aggregate-write-all (λ c κs. search needs)
+    (λ c. search needs) (λ c. search needs))

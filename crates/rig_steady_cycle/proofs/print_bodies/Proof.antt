@@ -12,19 +12,26 @@ use Rattle.rig_steady_cycle.proofs.print_bodies.Tie as tie
 
 print-reply-requires : tie.Need-print-reply-requires
 print-reply-requires c κs =
-    let s = c .before .before .before .before .before .before .before .before .before .before .before .before .before .before .before .before .before .before .before .before .before in
-    let n = c .before .before .before .before .before .before .before .before .before .before .before .before .before .state-count .ensures in (
-      omega (arith, n .0, s .pre .5, c .before .before .before .before .before .before .amounts .given),
-      omega (arith, n .0, s .pre .6, c .before .before .before .before .residual .given),
+    let at-residual = c .before .before .before .before in
+    let at-amounts = at-residual .before .before in
+    let at-state-count = at-amounts .before .before .before .before .before .before .before in
+    let s = at-state-count .before .before .before .before .before .before .before .before in
+    let n = at-state-count .state-count .ensures in (
+      omega (arith, n .0, s .pre .5, at-amounts .amounts .given),
+      omega (arith, n .0, s .pre .6, at-residual .residual .given),
       n .1,
     )
 
 returns : tie.Need-returns
 returns c =
-    let s = c .before .before .before .before .before .before .before .before .before .before .before .before .before .before .before .before .before .before .before .before .before .before .before .before in
+    let at-solve-bodies = c .before .before .before .before .before .before .before .before .before .before .before .before in
+    let at-state-count = at-solve-bodies .before .before .before .before in
+    let s = at-state-count .before .before .before .before .before .before .before .before in
     let g = s .args in
     let o = steadyWith (g .kernel) (wordsOf (g .window .now)) (wordsOf (g .samples .now)) (wordsOf (g .events .now)) in
-    prints-same (told-printout (stateCount (g .kernel)) o (steady-kept (g .kernel) (wordsOf (g .window .now)) (wordsOf (g .samples .now)) (wordsOf (g .events .now)) (s .pre .0)) (c .before .before .before .before .before .before .before .before .before .before .before .before .solve-bodies .ensures) (c .before .before .before .before .before .before .before .before .before .before .before .before .before .before .before .before .state-count .ensures .0)) (c .before .before .print-reply .ensures)
+    prints-same (told-printout (stateCount (g .kernel)) o (steady-kept (g .kernel) (wordsOf (g .window .now)) (wordsOf (g .samples .now))
+    (wordsOf (g .events .now)) (s .pre .0)) (at-solve-bodies .solve-bodies .ensures) (at-state-count .state-count .ensures
+    .0)) (c .before .before .print-reply .ensures)
 
 pub print-bodies-spec : {M : Type 1} → statement M
 print-bodies-spec =

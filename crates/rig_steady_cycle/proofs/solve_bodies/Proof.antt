@@ -3,6 +3,7 @@ use mathlib.Core.Path.{_≡_, sym, _∙_}
 use native.Mathlib.Omega.{arith}
 use Prim.Native.Nat.{_/_}
 use lib.ListN.{length}
+use Rattle.limits.specs.Limits.{eventBytes}
 use Rattle.events_layout.specs.Layout.{eventCount}
 use Rattle.sheet.specs.Sheet.{wordsOf}
 use Rattle.sheet.proofs.Places.{words-length}
@@ -13,16 +14,23 @@ use Rattle.rig_steady_cycle.proofs.solve_bodies.Tie as tie
 
 returns : tie.Need-returns
 returns c =
-    let s = c .before .before .before .before .before .before .before .before .before .before .before .before .before .before .before .before .before .before .before .before .before in
+    let at-periodic-steady-state = c .before .before .before .before in
+    let at-tolerance-of = at-periodic-steady-state .before .before .before .before in
+    let at-window-of = at-tolerance-of .before in
+    let at-events-of = at-window-of .before in
+    let at-doubles = at-events-of .before .before .before in
+    let s = at-doubles .before .before .before .before .before .before .before .before in
     let g = s .args in
-    let x = c .before .before .before .before .periodic-steady-state .ensures in
-    let e : length (g .events .now) / 48 ≡ eventCount (wordsOf (g .events .now)) = omega (arith, words-length (g .events .now)) in
+    let x = at-periodic-steady-state .periodic-steady-state .ensures in
+    let e : length (g .events .now) / eventBytes ≡ eventCount (wordsOf (g .events .now)) = omega (arith, words-length (g .events .now)) in
     entry-told (g .kernel) (wordsOf (g .window .now)) (wordsOf (g .samples .now)) (wordsOf (g .events .now)) (g .amounts .now) (g .residual .now) (s .pre .0)
-    (c .before .before .before .before .before .before .before .before .before .before .before .before .before .doubles .ensures) (c .before .before .before .before .before .before .before .before .before .before .events-of .ensures) (c .before .before .before .before .before .before .before .before .before .window-of .ensures) (c .before .before .before .before .before .before .before .before .tolerance-of .ensures)
-    e (omega (arith, s .pre .2)) (s .pre .4 ∙ sym (words-length (g .samples .now))) (omega (arith, s .pre .3, s .pre .4)) (s .pre .5) (s .pre .6) (x .0) (x .1 .0) (x .1 .1)
+    (at-doubles .doubles .ensures) (at-events-of .events-of .ensures) (at-window-of .window-of .ensures) (at-tolerance-of .tolerance-of .ensures)
+    e (omega (arith, s .pre .2)) (s .pre .4 ∙ sym (words-length (g .samples .now))) (omega (arith, s .pre .3, s .pre .4)) (s .pre .5)
+    (s .pre .6) (x .0) (x .1 .0) (x .1 .1)
 
 pub solve-bodies-spec : {M : Type 1} → statement M
 solve-bodies-spec =
     tie.close
     (tie.spec
-    (λ c κs. search needs) (λ c κs. search needs) (λ c κs. search needs) (λ c κs. search needs) (λ c κs. search needs) (λ c. search needs) (λ c. search needs) (λ c. search needs) returns)
+    (λ c κs. search needs) (λ c κs. search needs) (λ c κs. search needs) (λ c κs. search needs) (λ c κs. search needs) (λ c. search needs)
+    (λ c. search needs) (λ c. search needs) returns)

@@ -17,27 +17,53 @@ use Rattle.rig_steady_sheet.proofs.print_sheet.Tie as tie
 
 print-kernel-requires : tie.Need-print-kernel-requires
 print-kernel-requires c κs =
-    let s = c .before .before .before .before .before .before .before .before .before .before in
-    (model-sound (wordsOf (s .args .model .now)) (sym (c .before .before .before .before .kernel-of .ensures .0) ∙ ap (λ (r : Reply). resultOf r (c .before .before .before .before .kernel-of .result .kernel)) (c .before .before .enum-told .given .1)), s .pre .1, s .pre .2, s .pre .3)
+    let at-kernel-of = c .before .before .before .before in
+    let s = at-kernel-of .before .before .before .before .before .before in (
+      model-sound (wordsOf (s .args .model .now)) (sym (at-kernel-of .kernel-of .ensures .0)
+          ∙ ap (λ (r : Reply). resultOf r (at-kernel-of .kernel-of .result .kernel)) (c .before .before .enum-told .given .1)),
+      s .pre .1,
+      s .pre .2,
+      s .pre .3,
+    )
 
 returns : tie.Need-returns
 unfolding steadySheet steadyText
 returns c =
-    let g = c .before .before .before .before .before .before .before .before .before .before .before .before .before .args in
-    let s : Sheet = record { model = wordsOf (g .model .now); window = wordsOf (g .window .now); amounts = []; samples = wordsOf (g .samples .now); events = wordsOf (g .events .now) } in
-    let m = sym (c .before .before .before .before .before .before .before .kernel-of .ensures .0) ∙ ap (λ (r : Reply). resultOf r (c .before .before .before .before .before .before .before .kernel-of .result .kernel)) (c .before .before .before .before .before .reply .given .1) in
+    let at-reply = c .before .before .before .before .before in
+    let at-kernel-of = at-reply .before .before in
+    let g = at-kernel-of .before .before .before .before .before .before .args in
+    let s : Sheet = record {
+      model = wordsOf (g .model .now);
+      window = wordsOf (g .window .now);
+      amounts = [];
+      samples = wordsOf
+          (g .samples .now);
+      events = wordsOf (g .events .now);
+    } in
+    let m = sym (at-kernel-of .kernel-of .ensures .0) ∙ ap (λ (r : Reply). resultOf r (at-kernel-of .kernel-of .result .kernel)) (at-reply .reply .given .1) in
     prints-same (sym (ap steadyPrintout (sheet-refused steadyWith s m))) (c .before .before .print-refusal .ensures)
 
 returns-2 : tie.Need-returns-2
 unfolding steadySheet
 returns-2 c =
-    let g = c .before .before .before .before .before .before .before .before .before .before .before .before .before .args in
-    let s : Sheet = record { model = wordsOf (g .model .now); window = wordsOf (g .window .now); amounts = []; samples = wordsOf (g .samples .now); events = wordsOf (g .events .now) } in
-    let m = sym (c .before .before .before .before .before .before .before .kernel-of .ensures .0) ∙ ap (λ (r : Reply). resultOf r (c .before .before .before .before .before .before .before .kernel-of .result .kernel)) (c .before .before .before .before .before .enum-told .given .1) in
+    let at-enum-told = c .before .before .before .before .before in
+    let at-kernel-of = at-enum-told .before .before in
+    let g = at-kernel-of .before .before .before .before .before .before .args in
+    let s : Sheet = record {
+      model = wordsOf (g .model .now);
+      window = wordsOf (g .window .now);
+      amounts = [];
+      samples = wordsOf
+          (g .samples .now);
+      events = wordsOf (g .events .now);
+    } in
+    let m = sym (at-kernel-of .kernel-of .ensures .0) ∙ ap (λ (r : Reply). resultOf r (at-kernel-of .kernel-of .result .kernel))
+    (at-enum-told .enum-told .given .1) in
     prints-same (sym (ap steadyPrintout (sheet-runs steadyWith s m))) (c .before .before .print-kernel .ensures)
 
 pub print-sheet-spec : {M : Type 1} → statement M
 print-sheet-spec =
     tie.close
     (tie.spec
-    (λ c κs. search needs) (λ c. search needs) (λ c κs. search needs) (λ c. search needs) print-kernel-requires (λ c. search needs) returns (λ c. search needs) returns-2)
+    (λ c κs. search needs) (λ c. search needs) (λ c κs. search needs) (λ c. search needs) print-kernel-requires (λ c. search needs) returns
+    (λ c. search needs) returns-2)

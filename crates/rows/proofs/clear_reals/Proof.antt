@@ -22,13 +22,17 @@ slice-write-list c = omega (arith, c .before .loop .inv .same, c .before .before
 
 loop-again : tie.Need-loop-again Inv-loop μ-loop
 unfolding ofBits
-loop-again c = clearing-more plusZero (c .before .before .args .k) (c .before .before .args .list .now) (c .before .loop .i) (c .before .before .pre) (c .before .loop .inv) (c .loop-test .taken)
+loop-again c =
+    clearing-more plusZero (c .before .before .args .k) (c .before .before .args .list .now) (c .before .loop .i) (c .before .before .pre)
+    (c .before .loop .inv) (c .loop-test .taken)
 
 same-length : tie.Need-same-length Inv-loop μ-loop
 same-length c = c .before .loop .inv .same
 
 returns : tie.Need-returns Inv-loop μ-loop
-returns c = clearing-done plusZero (c .before .before .args .k) (c .before .before .args .list .now) (c .before .loop .i) (c .loop-test .left) (c .before .loop .inv)
+returns c =
+    clearing-done plusZero (c .before .before .args .k) (c .before .before .args .list .now) (c .before .loop .i) (c .loop-test .left)
+    (c .before .loop .inv)
 
 pub clear-reals-spec : {M : Type 1} → statement M
 clear-reals-spec =

@@ -19,7 +19,9 @@ slice-write-list : tie.Need-slice-write-list Inv-loop μ-loop
 slice-write-list c = omega (arith, c .before .loop .inv .same, c .before .before .pre)
 
 loop-again : tie.Need-loop-again Inv-loop μ-loop
-loop-again c = clearing-more 0 (c .before .before .args .k) (c .before .before .args .list .now) (c .before .loop .i) (c .before .before .pre) (c .before .loop .inv) (c .loop-test .taken)
+loop-again c =
+    clearing-more 0 (c .before .before .args .k) (c .before .before .args .list .now) (c .before .loop .i) (c .before .before .pre)
+    (c .before .loop .inv) (c .loop-test .taken)
 
 same-length : tie.Need-same-length Inv-loop μ-loop
 same-length c = c .before .loop .inv .same

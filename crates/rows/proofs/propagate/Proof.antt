@@ -20,7 +20,9 @@ slice-aggregate-advance c = sym (length-take-le _ _ (omega arith))
 returns : tie.Need-returns
 returns c =
     let g = c .before .before .before .before .before .args in
-    advance-moves (g .kernel) (g .n) (take (g .n) (g .t3)) (take (g .n) (g .t4)) (g .duration) _ (length-take-le _ _ (omega arith)) (length-take-le (g .n) (g .t3) (omega arith)) (c .before .advance .result) (c .before .advance .ensures .0) _ _ _ (length-take-le _ _ (omega arith)) (c .before .advance .ensures .1)
+    advance-moves (g .kernel) (g .n) (take (g .n) (g .t3)) (take (g .n) (g .t4)) (g .duration) _ (length-take-le _ _ (omega arith))
+    (length-take-le (g .n) (g .t3) (omega arith)) (c .before .advance .result) (c .before .advance .ensures .0) _ _ _
+    (length-take-le _ _ (omega arith)) (c .before .advance .ensures .1)
 
 pub propagate-spec : {M : Type 1} → statement M
 propagate-spec =

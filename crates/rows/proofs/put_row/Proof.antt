@@ -10,7 +10,9 @@ use Rattle.rows.proofs.put_row.Statement.{statement}
 use Rattle.rows.proofs.put_row.Tie as tie
 
 slice-aggregate-state : tie.Need-slice-aggregate-state
-slice-aggregate-state c = sym (length-take-le (c .before .before .before .before .args .n) (c .before .before .before .before .args .t8) (omega arith))
+slice-aggregate-state c =
+    let start = c .before .before .before .before in
+    sym (length-take-le (start .args .n) (start .args .t8) (omega arith))
 
 row-writer-requires : tie.Need-row-writer-requires
 row-writer-requires c κs =
@@ -24,7 +26,8 @@ returns c =
     let g = c .before .before .before .before .before .before .before .before .args in (
       put-one (g .row) (g .time) (g .times .now),
       put-one (g .row) (g .side) (g .sides .now),
-      put-lent (g .row * g .n) (take (g .n) (g .t8)) (g .values .now) _ (omega (arith, length-take-le (g .n) (g .t8) (omega arith))) (c .before .before .row-writer .ensures),
+      put-lent (g .row * g .n) (take (g .n) (g .t8)) (g .values .now) _ (omega (arith, length-take-le (g .n) (g .t8) (omega arith)))
+          (c .before .before .row-writer .ensures),
     )
 
 pub put-row-spec : {M : Type 1} → statement M

@@ -6,38 +6,71 @@ use mathlib.Core.Logic.{⊎-elim}
 use lib.ListN.{length, take}
 use lib.Ieee.{ofBits}
 use Rattle.rows.specs.Written.{cells}
-use Rattle.rows.specs.Told.{kernelAdvance}
+use Rattle.rows.specs.Standing.{kernelAdvance}
 use Rattle.rows.proofs.Parts.{fits-fresh, ran-fresh, ran-same}
 use Rattle.rows_interval.proofs.Readings.{Through, through-none, through-all, through-early, through-late, through-fits, through-stops, through-more}
 use Rattle.rows_interval.proofs.read_all.Statement.{statement}
 use Rattle.rows_interval.proofs.read_all.Tie as tie
 
 abbrev Inv-loop : tie.InvT-loop
-Inv-loop kernel n t rates u samples times₀ sides₀ values₀ p₀ k₀ times sides values p k = Through (kernelAdvance kernel n) n p₀ t (take n rates) u samples (cells times₀ sides₀ values₀) p k (cells times sides values)
+Inv-loop kernel n t rates u samples times₀ sides₀ values₀ p₀ k₀ times sides values p k =
+    Through (kernelAdvance kernel n) n p₀ t (take n rates) u samples (cells times₀ sides₀ values₀) p k (cells times sides values)
 
 abbrev μ-loop : tie.MeasureT-loop
 μ-loop kernel n t rates u samples times₀ sides₀ values₀ p₀ k₀ times sides values p k = length samples - k
 
 loop-holds : tie.Need-loop-holds Inv-loop μ-loop
 unfolding ofBits
-loop-holds c = through-none (c .before .before .before .before .before .args .start)
+loop-holds c =
+    let start = c .before .before .before .before .before in
+    through-none (start .args .start)
 
 read-requires : tie.Need-read-requires Inv-loop μ-loop
 unfolding ofBits
-read-requires c κs = through-fits (c .before .before .before .before .before .before .before .loop .inv) (c .before .before .before .before .before .before .loop-test .taken) (c .before .before .before .before .if1 .taken) (c .before .before .before .if2 .taken) (fits-fresh (c .before .before .before .before .before .before .before .before .before .before .before .before .before .pre))
+read-requires c κs =
+    let at-if2 = c .before .before .before in
+    let at-if1 = at-if2 .before in
+    let at-loop-test = at-if1 .before .before in
+    let at-loop = at-loop-test .before in
+    let start = at-loop .before .before .before .before .before .before in
+    through-fits (at-loop .loop .inv) (at-loop-test .loop-test .taken) (at-if1 .if1 .taken) (at-if2 .if2 .taken) (fits-fresh (start .pre))
 
 same-length : tie.Need-same-length Inv-loop μ-loop
-same-length c = ran-same (through-stops (c .before .before .before .before .before .before .before .before .before .before .before .before .before .before .before .before .loop .inv) (c .before .before .before .before .before .before .before .before .before .before .before .before .before .before .before .loop-test .taken) (c .before .before .before .before .before .before .before .before .before .before .before .before .before .if1 .taken) (c .before .before .before .before .before .before .before .before .before .before .before .before .if2 .taken) (c .before .before .before .before .before .before .before .before .read .ensures) (sym (c .before .stopped .ensures) ∙ c .if3 .taken)) .times
+same-length c =
+    let at-read = c .before .before .before .before .before .before .before .before in
+    let at-if2 = at-read .before .before .before .before in
+    let at-if1 = at-if2 .before in
+    let at-loop-test = at-if1 .before .before in
+    ran-same (through-stops (at-loop-test .before .loop .inv) (at-loop-test .loop-test .taken) (at-if1 .if1 .taken) (at-if2 .if2 .taken)
+    (at-read .read .ensures) (sym (c .before .stopped .ensures) ∙ c .if3 .taken)) .times
 
 same-length-2 : tie.Need-same-length-2 Inv-loop μ-loop
-same-length-2 c = ran-same (through-stops (c .before .before .before .before .before .before .before .before .before .before .before .before .before .before .before .before .loop .inv) (c .before .before .before .before .before .before .before .before .before .before .before .before .before .before .before .loop-test .taken) (c .before .before .before .before .before .before .before .before .before .before .before .before .before .if1 .taken) (c .before .before .before .before .before .before .before .before .before .before .before .before .if2 .taken) (c .before .before .before .before .before .before .before .before .read .ensures) (sym (c .before .stopped .ensures) ∙ c .if3 .taken)) .sides
+same-length-2 c =
+    let at-read = c .before .before .before .before .before .before .before .before in
+    let at-if2 = at-read .before .before .before .before in
+    let at-if1 = at-if2 .before in
+    let at-loop-test = at-if1 .before .before in
+    ran-same (through-stops (at-loop-test .before .loop .inv) (at-loop-test .loop-test .taken) (at-if1 .if1 .taken) (at-if2 .if2 .taken)
+    (at-read .read .ensures) (sym (c .before .stopped .ensures) ∙ c .if3 .taken)) .sides
 
 same-length-3 : tie.Need-same-length-3 Inv-loop μ-loop
-same-length-3 c = ran-same (through-stops (c .before .before .before .before .before .before .before .before .before .before .before .before .before .before .before .before .loop .inv) (c .before .before .before .before .before .before .before .before .before .before .before .before .before .before .before .loop-test .taken) (c .before .before .before .before .before .before .before .before .before .before .before .before .before .if1 .taken) (c .before .before .before .before .before .before .before .before .before .before .before .before .if2 .taken) (c .before .before .before .before .before .before .before .before .read .ensures) (sym (c .before .stopped .ensures) ∙ c .if3 .taken)) .values
+same-length-3 c =
+    let at-read = c .before .before .before .before .before .before .before .before in
+    let at-if2 = at-read .before .before .before .before in
+    let at-if1 = at-if2 .before in
+    let at-loop-test = at-if1 .before .before in
+    ran-same (through-stops (at-loop-test .before .loop .inv) (at-loop-test .loop-test .taken) (at-if1 .if1 .taken) (at-if2 .if2 .taken)
+    (at-read .read .ensures) (sym (c .before .stopped .ensures) ∙ c .if3 .taken)) .values
 
 returns : tie.Need-returns Inv-loop μ-loop
 unfolding ofBits
-returns c = ran-fresh (through-stops (c .before .before .before .before .before .before .before .before .before .before .before .before .before .before .before .before .loop .inv) (c .before .before .before .before .before .before .before .before .before .before .before .before .before .before .before .loop-test .taken) (c .before .before .before .before .before .before .before .before .before .before .before .before .before .if1 .taken) (c .before .before .before .before .before .before .before .before .before .before .before .before .if2 .taken) (c .before .before .before .before .before .before .before .before .read .ensures) (sym (c .before .stopped .ensures) ∙ c .if3 .taken))
+returns c =
+    let at-read = c .before .before .before .before .before .before .before .before in
+    let at-if2 = at-read .before .before .before .before in
+    let at-if1 = at-if2 .before in
+    let at-loop-test = at-if1 .before .before in
+    ran-fresh (through-stops (at-loop-test .before .loop .inv) (at-loop-test .loop-test .taken) (at-if1 .if1 .taken) (at-if2 .if2 .taken)
+    (at-read .read .ensures) (sym (c .before .stopped .ensures) ∙ c .if3 .taken))
 
 loop-again : tie.Need-loop-again Inv-loop μ-loop
 loop-again c =

@@ -8,10 +8,12 @@ use Rattle.sheet.proofs.event_fits.Tie as tie
 
 returns : tie.Need-returns
 unfolding eventFits
-returns c = c .listed .ensures ∙ rw (add-zero, c .before .before .before .word .ensures, c .before .before .word2 .ensures, c .before .word3 .ensures)
+returns c =
+    c .words-listed .ensures ∙ rw (add-zero, c .before .before .before .word .ensures, c .before .before .word2 .ensures, c .before .word3 .ensures)
 
 pub event-fits-spec : {M : Type 1} → statement M
 event-fits-spec =
     tie.close
     (tie.spec
-    (λ c. search needs) (λ c κs. search needs) (λ c. search needs) (λ c κs. search needs) (λ c. search needs) (λ c κs. search needs) (λ c κs. search needs) returns)
+    (λ c. search needs) (λ c κs. search needs) (λ c. search needs) (λ c κs. search needs) (λ c. search needs) (λ c κs. search needs)
+    (λ c κs. search needs) returns)

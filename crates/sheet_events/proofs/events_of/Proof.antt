@@ -3,6 +3,7 @@ use mathlib.Core.Path.{_≡_}
 use borrow.Author.Needs.{needs}
 use native.Mathlib.Omega.{arith}
 use Prim.Native.Nat.{_≤_, _-_}
+use Rattle.limits.specs.Limits.{mostEvents}
 use Rattle.matrix.proofs.Filled.{fill, fillFrom, fill-more, filled}
 use Rattle.protocol.specs.Events.{noEvent}
 use Rattle.events_layout.specs.Layout.{eventOrNone}
@@ -11,10 +12,10 @@ use Rattle.sheet_events.proofs.events_of.Statement.{statement}
 use Rattle.sheet_events.proofs.events_of.Tie as tie
 
 abbrev Inv-loop : tie.InvT-loop
-Inv-loop part list₀ i₀ list i = (i ≤ 192) × (list ≡ fill 192 i (eventOrNone (wordsOf part)) noEvent)
+Inv-loop part list₀ i₀ list i = (i ≤ mostEvents) × (list ≡ fill mostEvents i (eventOrNone (wordsOf part)) noEvent)
 
 abbrev μ-loop : tie.MeasureT-loop
-μ-loop part list₀ i₀ list i = 192 - i
+μ-loop part list₀ i₀ list i = mostEvents - i
 
 loop-holds : tie.Need-loop-holds Inv-loop μ-loop
 unfolding fill fillFrom

@@ -28,13 +28,15 @@ event-of-requires : tie.Need-event-of-requires Inv-loop μ-loop
 event-of-requires c κs = omega arith
 
 loop-again : tie.Need-loop-again Inv-loop μ-loop
-loop-again c = (omega arith, rw (add-one, ordered-more, c .plus-dose .ensures, c .before .event-of .ensures, c .before .before .before .loop .inv .1))
+loop-again c =
+    (omega arith, rw (add-one, ordered-more, c .plus-dose .ensures, c .before .event-of .ensures, c .before .before .before .loop .inv .1))
 
 returns : tie.Need-returns Inv-loop μ-loop
 unfolding eventsOf
 returns c =
-    let ws = wordsOf (c .before .before .before .args .events .now) in
-    let e : c .before .loop .i ≡ eventCount ws = omega (arith, words-length (c .before .before .before .args .events .now), c .before .loop .inv .0, c .loop-test .left) in
+    let start = c .before .before .before in
+    let ws = wordsOf (start .args .events .now) in
+    let e : c .before .loop .i ≡ eventCount ws = omega (arith, words-length (start .args .events .now), c .before .loop .inv .0, c .loop-test .left) in
     c .before .loop .inv .1 ∙ ap (λ (j : ℕ). ordered (tabulate j (eventOf ws))) e
 
 pub ordered-spec : {M : Type 1} → statement M

@@ -34,10 +34,12 @@ returns : tie.Need-returns Inv-loop μ-loop
 returns c =
     let g = c .before .before .before .before .args in
     let l = c .before .loop in
-    updated-all (λ j x. doubleOf (wordsOf (g .part .now)) (g .i + j)) (l .k) (length (g .out .now)) (g .out .now) (l .inv .0) (omega arith) (l .inv .2) ∙ whole (λ j. doubleOf (wordsOf (g .part .now)) (g .i + j)) (g .out .now)
+    updated-all (λ j x. doubleOf (wordsOf (g .part .now)) (g .i + j)) (l .k) (length (g .out .now)) (g .out .now) (l .inv .0) (omega arith)
+    (l .inv .2) ∙ whole (λ j. doubleOf (wordsOf (g .part .now)) (g .i + j)) (g .out .now)
 
 pub doubles-spec : {M : Type 1} → statement M
 doubles-spec =
     tie.close
     (tie.spec
-    Inv-loop μ-loop loop-holds (λ c. search needs) (λ c κs. search needs) (λ c. search needs) (λ c. search needs) (λ c. search needs) (λ c. search needs) loop-again (λ c. search needs) returns)
+    Inv-loop μ-loop loop-holds (λ c. search needs) (λ c κs. search needs) (λ c. search needs) (λ c. search needs) (λ c. search needs)
+    (λ c. search needs) loop-again (λ c. search needs) returns)

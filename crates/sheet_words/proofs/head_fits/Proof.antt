@@ -21,7 +21,15 @@ returns c = rw (words-length, lt-leb _ _ (c .if1 .taken)) (on (wordsFit (c .befo
 
 returns-2 : tie.Need-returns-2
 unfolding placed
-returns-2 c = rw (ends-follow (wordsOf (c .before .before .before .before .before .args .bytes .now)) 11 (0 ∷ 1 ∷ 2 ∷ 3 ∷ 4 ∷ []), words-length, le-leb _ _ (c .before .before .before .if1 .left), ← c .before .word .ensures, c .before .before .places-of .ensures)
+returns-2 c =
+    let at-if1 = c .before .before .before in
+    rw (
+      ends-follow (wordsOf (at-if1 .before .before .args .bytes .now)) 11 (0 ∷ 1 ∷ 2 ∷ 3 ∷ 4 ∷ []),
+      words-length,
+      le-leb _ _ (at-if1 .if1 .left),
+      ← c .before .word .ensures,
+      c .before .before .places-of .ensures,
+    )
 
 pub head-fits-spec : {M : Type 1} → statement M
 head-fits-spec =

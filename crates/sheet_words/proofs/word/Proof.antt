@@ -7,8 +7,9 @@ use Rattle.sheet_words.proofs.word.Tie as tie
 
 returns : tie.Need-returns
 returns c =
-    let g = c .before .before .before .args in
-    rw (word-at (g .bytes .now) (g .i) (c .before .before .before .pre), eight (g .bytes .now) (8 * g .i) (c .before .before .before .pre), c .before .half .ensures .1, c .half2 .ensures .1)
+    let start = c .before .before .before in
+    let g = start .args in
+    rw (word-at (g .bytes .now) (g .i) (start .pre), eight (g .bytes .now) (8 * g .i) (start .pre), c .before .half .ensures .1, c .half2 .ensures .1)
 
 pub word-spec : {M : Type 1} → statement M
 word-spec =

@@ -5,17 +5,21 @@ use native.Mathlib.Omega.{arith}
 use Prim.Native.Nat.{_≤_, _-_}
 use lib.ListN.{length, take}
 use lib.Ieee.{ofBits}
+use Rattle.limits.specs.Limits.{mostEvents}
 use Rattle.events.specs.Packed.{packed}
 use Rattle.rows.specs.Written.{cells}
-use Rattle.rows.specs.Told.{kernelAdvance}
+use Rattle.rows.specs.Standing.{kernelAdvance}
 use Rattle.rows.proofs.Parts.{ran-nothing, ran-fresh, ran-same, fits-fresh}
 use Rattle.events.proofs.Packing.{packed-length}
-use Rattle.simulation_boundaries.proofs.Boundaries.{Going, going-start, end-room, end-ran, here-room, here-stopped, code-room, code-stopped, code-going, marks-none}
+use Rattle.simulation_boundaries.proofs.Boundaries.{Going, going-start, end-room, end-ran, here-room, here-stopped, code-room}
+use Rattle.simulation_boundaries.proofs.Boundaries.{code-stopped, code-going, marks-none}
 use Rattle.simulation_boundaries.proofs.over_boundaries.Statement.{statement}
 use Rattle.simulation_boundaries.proofs.over_boundaries.Tie as tie
 
 abbrev Inv-loop : tie.InvT-loop
-Inv-loop kernel n reals words count bounds samples times₀ sides₀ values₀ last marks₀ p₀ b₀ times sides values marks p b = Going (kernelAdvance kernel n) n (packed reals words count) samples bounds p₀ (cells times₀ sides₀ values₀) (take count marks) p (cells times sides values) b × (b ≤ last) × (length marks ≡ 192)
+Inv-loop kernel n reals words count bounds samples times₀ sides₀ values₀ last marks₀ p₀ b₀ times sides values marks p b =
+    Going (kernelAdvance kernel n) n (packed reals words count) samples bounds p₀ (cells times₀ sides₀ values₀) (take count marks) p
+    (cells times sides values) b × (b ≤ last) × (length marks ≡ mostEvents)
 
 abbrev μ-loop : tie.MeasureT-loop
 μ-loop kernel n reals words count bounds samples times₀ sides₀ values₀ last marks₀ p₀ b₀ times sides values marks p b = last - b
@@ -24,18 +28,28 @@ loop-holds : tie.Need-loop-holds Inv-loop μ-loop
 unfolding ofBits
 loop-holds c =
     let s = c .before .before .before .before .before .before in (
-      going-start _ _ _ _ _ _ _ (s .pre .1) (marks-none (packed (s .args .reals .now) (s .args .words .now) (s .args .count)) (s .args .count) (packed-length (s .args .reals .now) (s .args .words .now) (s .args .count)) (s .pre .0))
+      going-start _ _ _ _ _ _ _ (s .pre .1) (marks-none (packed (s .args .reals .now) (s .args .words .now) (s .args .count))
+          (s .args .count) (packed-length (s .args .reals .now) (s .args .words .now) (s .args .count)) (s .pre .0))
           (ran-nothing _ _) refl (fits-fresh (s .pre .2)),
       omega arith,
       refl,
     )
 
 at-boundary-requires : tie.Need-at-boundary-requires Inv-loop μ-loop
-at-boundary-requires c κs = (c .before .before .before .before .before .before .before .before .before .before .before .before .pre .0, here-room _ _ _ _ _ _ _ _ _ _ _ (c .before .before .before .before .before .loop .inv .0) (omega arith))
+at-boundary-requires c κs =
+    let at-loop = c .before .before .before .before .before in
+    let start = at-loop .before .before .before .before .before .before .before in
+    (start .pre .0, here-room _ _ _ _ _ _ _ _ _ _ _ (at-loop .loop .inv .0) (omega arith))
 
 returns : tie.Need-returns Inv-loop μ-loop
 unfolding ofBits
-returns c = ran-fresh (here-stopped _ _ _ _ _ _ _ _ _ _ _ (c .before .before .before .before .before .before .before .before .before .before .before .before .before .before .loop .inv .0) (omega arith) (c .before .before .before .before .before .before .before .before .at-boundary .ensures (kernelAdvance (c .before .before .before .before .before .before .before .before .before .before .before .before .before .before .before .before .before .before .before .before .before .args .kernel) (c .before .before .before .before .before .before .before .before .before .before .before .before .before .before .before .before .before .before .before .before .before .args .n))) (sym (c .before .stopped .ensures) ∙ c .if1 .taken))
+returns c =
+    let at-at-boundary = c .before .before .before .before .before .before .before .before in
+    let at-loop = at-at-boundary .before .before .before .before .before .before in
+    let start = at-loop .before .before .before .before .before .before .before in
+    ran-fresh (here-stopped _ _ _ _ _ _ _ _ _ _ _ (at-loop .loop .inv .0) (omega arith)
+    (at-at-boundary .at-boundary .ensures (kernelAdvance (start .args .kernel) (start .args .n)))
+    (sym (c .before .stopped .ensures) ∙ c .if1 .taken))
 
 same-length : tie.Need-same-length Inv-loop μ-loop
 same-length c = ran-same (returns c) .times
@@ -47,20 +61,53 @@ same-length-3 : tie.Need-same-length-3 Inv-loop μ-loop
 same-length-3 c = ran-same (returns c) .values
 
 add-u : tie.Need-add-u Inv-loop μ-loop
-add-u c = omega (arith, c .before .before .before .before .before .before .before .before .before .before .before .before .before .before .before .before .before .loop-test .taken, c .before .before .before .before .before .before .before .before .before .before .before .before .before .before .before .before .before .before .before .before .before .before .before .before .before .good .1 .1 .1 .1 .1 .0 .0)
+add-u c =
+    let at-loop-test = c .before .before .before .before .before .before .before .before .before .before .before .before .before .before
+    .before .before .before in
+    let start = at-loop-test .before .before .before .before .before .before .before .before in
+    omega (arith, at-loop-test .loop-test .taken, start .good .1 .1 .1 .1 .1 .0 .0)
 
 mul-u : tie.Need-mul-u Inv-loop μ-loop
-mul-u c = omega (arith, c .before .before .before .before .before .before .before .before .before .before .before .before .before .before .before .before .before .loop-test .taken, c .before .before .before .before .before .before .before .before .before .before .before .before .before .before .before .before .before .before .before .before .before .before .before .before .before .good .1 .1 .1 .1 .1 .0 .1)
+mul-u c =
+    let at-loop-test = c .before .before .before .before .before .before .before .before .before .before .before .before .before .before
+    .before .before .before in
+    let start = at-loop-test .before .before .before .before .before .before .before .before in
+    omega (arith, at-loop-test .loop-test .taken, start .good .1 .1 .1 .1 .1 .0 .1)
 
 shared-slice-read-u : tie.Need-shared-slice-read-u Inv-loop μ-loop
-shared-slice-read-u c = omega (arith, c .before .before .before .before .before .before .before .before .before .before .before .before .before .before .before .before .before .before .loop-test .taken)
+shared-slice-read-u c =
+    let at-loop-test = c .before .before .before .before .before .before .before .before .before .before .before .before .before .before
+    .before .before .before .before in
+    omega (arith, at-loop-test .loop-test .taken)
 
 on-interval-requires : tie.Need-on-interval-requires Inv-loop μ-loop
-on-interval-requires c κs = code-room _ _ _ _ _ _ _ _ _ _ _ (c .before .before .before .before .before .before .before .before .before .before .before .before .before .before .before .before .before .before .before .before .before .before .loop .inv .0) (omega arith) (c .before .before .before .before .before .before .before .before .before .before .before .before .before .before .before .before .at-boundary .ensures (kernelAdvance (c .before .before .before .before .before .before .before .before .before .before .before .before .before .before .before .before .before .before .before .before .before .before .before .before .before .before .before .before .before .args .kernel) (c .before .before .before .before .before .before .before .before .before .before .before .before .before .before .before .before .before .before .before .before .before .before .before .before .before .before .before .before .before .args .n))) (c .before .before .before .before .before .before .mark .ensures .1) (c .before .before .before .before .summed-rates .ensures)
+on-interval-requires c κs =
+    let at-summed-rates = c .before .before .before .before in
+    let at-mark = at-summed-rates .before .before in
+    let at-at-boundary = at-mark .before .before .before .before .before .before .before .before .before .before in
+    let at-loop-test = at-at-boundary .before .before .before .before .before in
+    let at-loop = at-loop-test .before in
+    let start = at-loop .before .before .before .before .before .before .before in
+    code-room _ _ _ _ _ _ _ _ _ _ _ (at-loop .loop .inv .0) (omega (arith, at-loop-test .loop-test .taken))
+    (at-at-boundary .at-boundary .ensures (kernelAdvance (start .args .kernel) (start .args .n))) (at-mark .mark .ensures .1)
+    (at-summed-rates .summed-rates .ensures)
 
 returns-2 : tie.Need-returns-2 Inv-loop μ-loop
 unfolding ofBits
-returns-2 c = ran-fresh (code-stopped _ _ _ _ _ _ _ _ _ _ _ (c .before .before .before .before .before .before .before .before .before .before .before .before .before .before .before .before .before .before .before .before .before .before .before .before .before .before .before .before .before .before .before .loop .inv .0) (omega (arith, c .before .before .before .before .before .before .before .before .before .before .before .before .before .before .before .before .before .before .before .before .before .before .before .before .before .before .before .before .before .before .loop-test .taken, c .before .before .before .before .before .before .before .before .before .before .before .before .before .before .before .before .before .before .before .before .before .before .before .before .before .before .before .before .before .before .before .before .before .before .before .before .before .before .pre .1)) (c .before .before .before .before .before .before .before .before .before .before .before .before .before .before .before .before .before .before .before .before .before .before .before .before .before .at-boundary .ensures (kernelAdvance (c .before .before .before .before .before .before .before .before .before .before .before .before .before .before .before .before .before .before .before .before .before .before .before .before .before .before .before .before .before .before .before .before .before .before .before .before .before .before .args .kernel) (c .before .before .before .before .before .before .before .before .before .before .before .before .before .before .before .before .before .before .before .before .before .before .before .before .before .before .before .before .before .before .before .before .before .before .before .before .before .before .args .n))) (c .before .before .before .before .before .before .before .before .before .before .before .before .before .before .before .mark .ensures .1) (c .before .before .before .before .before .before .before .before .before .before .before .before .before .summed-rates .ensures) (sym (c .before .before .before .before .before .before .before .before .before .before .before .before .before .before .before .before .before .before .stopped .ensures) ∙ c .before .before .before .before .before .before .before .before .before .before .before .before .before .before .before .before .before .if1 .left) (c .before .before .before .before .before .before .before .before .on-interval .ensures) (sym (c .before .stopped2 .ensures) ∙ c .if2 .taken))
+returns-2 c =
+    let at-on-interval = c .before .before .before .before .before .before .before .before in
+    let at-summed-rates = at-on-interval .before .before .before .before .before in
+    let at-mark = at-summed-rates .before .before in
+    let at-if1 = at-mark .before .before in
+    let at-stopped = at-if1 .before in
+    let at-at-boundary = at-stopped .before .before .before .before .before .before .before in
+    let at-loop-test = at-at-boundary .before .before .before .before .before in
+    let at-loop = at-loop-test .before in
+    let start = at-loop .before .before .before .before .before .before .before in
+    ran-fresh (code-stopped _ _ _ _ _ _ _ _ _ _ _ (at-loop .loop .inv .0) (omega (arith, at-loop-test .loop-test .taken, start .pre .1))
+    (at-at-boundary .at-boundary .ensures (kernelAdvance (start .args .kernel) (start .args .n))) (at-mark .mark .ensures .1)
+    (at-summed-rates .summed-rates .ensures) (sym (at-stopped .stopped .ensures) ∙ at-if1 .if1 .left)
+    (at-on-interval .on-interval .ensures) (sym (c .before .stopped2 .ensures) ∙ c .if2 .taken))
 
 same-length-4 : tie.Need-same-length-4 Inv-loop μ-loop
 same-length-4 c = ran-same (returns-2 c) .times
@@ -72,32 +119,55 @@ same-length-6 : tie.Need-same-length-6 Inv-loop μ-loop
 same-length-6 c = ran-same (returns-2 c) .values
 
 add-b : tie.Need-add-b Inv-loop μ-loop
-add-b c = omega (arith, c .before .before .before .before .before .before .before .before .before .before .before .before .before .before .before .before .before .before .before .before .before .before .before .before .before .before .before .before .before .before .loop-test .taken, c .before .before .before .before .before .before .before .before .before .before .before .before .before .before .before .before .before .before .before .before .before .before .before .before .before .before .before .before .before .before .before .before .before .before .before .before .before .before .good .1 .1 .1 .1 .1 .0 .0)
+add-b c =
+    let at-loop-test = c .before .before .before .before .before .before .before .before .before .before .before .before .before .before
+    .before .before .before .before .before .before .before .before .before .before .before .before .before .before .before .before in
+    let start = at-loop-test .before .before .before .before .before .before .before .before in
+    omega (arith, at-loop-test .loop-test .taken, start .good .1 .1 .1 .1 .1 .0 .0)
 
 loop-less : tie.Need-loop-less Inv-loop μ-loop
-loop-less c = omega (arith, c .before .before .before .before .before .before .before .before .before .before .before .before .before .before .before .before .before .before .before .before .before .before .before .before .before .before .before .before .before .before .loop-test .taken)
+loop-less c =
+    let at-loop-test = c .before .before .before .before .before .before .before .before .before .before .before .before .before .before
+    .before .before .before .before .before .before .before .before .before .before .before .before .before .before .before .before in
+    omega (arith, at-loop-test .loop-test .taken)
 
 loop-again : tie.Need-loop-again Inv-loop μ-loop
-loop-again c = (
-  code-going _ _ _ _ _ _ _ _ _ _ _ (c .before .before .before .before .before .before .before .before .before .before .before .before .before .before .before .before .before .before .before .before .before .before .before .before .before .before .before .before .before .before .before .loop .inv .0) (omega (arith, c .before .before .before .before .before .before .before .before .before .before .before .before .before .before .before .before .before .before .before .before .before .before .before .before .before .before .before .before .before .before .loop-test .taken, c .before .before .before .before .before .before .before .before .before .before .before .before .before .before .before .before .before .before .before .before .before .before .before .before .before .before .before .before .before .before .before .before .before .before .before .before .before .before .pre .1)) (c .before .before .before .before .before .before .before .before .before .before .before .before .before .before .before .before .before .before .before .before .before .before .before .before .before .at-boundary .ensures (kernelAdvance (c .before .before .before .before .before .before .before .before .before .before .before .before .before .before .before .before .before .before .before .before .before .before .before .before .before .before .before .before .before .before .before .before .before .before .before .before .before .before .args .kernel) (c .before .before .before .before .before .before .before .before .before .before .before .before .before .before .before .before .before .before .before .before .before .before .before .before .before .before .before .before .before .before .before .before .before .before .before .before .before .before .args .n))) (c .before .before .before .before .before .before .before .before .before .before .before .before .before .before .before .mark .ensures .1) (c .before .before .before .before .before .before .before .before .before .before .before .before .before .summed-rates .ensures) (sym (c .before .before .before .before .before .before .before .before .before .before .before .before .before .before .before .before .before .before .stopped .ensures) ∙ c .before .before .before .before .before .before .before .before .before .before .before .before .before .before .before .before .before .if1 .left) (c .before .before .before .before .before .before .before .before .on-interval .ensures) (sym (c .before .stopped2 .ensures) ∙ c .if2 .left),
-  omega (arith, c .before .before .before .before .before .before .before .before .before .before .before .before .before .before .before .before .before .before .before .before .before .before .before .before .before .before .before .before .before .before .loop-test .taken, c .before .before .before .before .before .before .before .before .before .before .before .before .before .before .before .before .before .before .before .before .before .before .before .before .before .before .before .before .before .before .before .before .before .before .before .before .before .before .pre .1),
-  c .before .before .before .before .before .before .before .before .before .before .before .before .before .before .before .mark .ensures .0 ∙ c .before .before .before .before .before .before .before .before .before .before .before .before .before .before .before .before .before .before .before .before .before .before .before .before .before .before .before .before .before .before .before .loop .inv .2,
-)
+loop-again c =
+    let at-on-interval = c .before .before .before .before .before .before .before .before in
+    let at-summed-rates = at-on-interval .before .before .before .before .before in
+    let at-mark = at-summed-rates .before .before in
+    let at-if1 = at-mark .before .before in
+    let at-stopped = at-if1 .before in
+    let at-at-boundary = at-stopped .before .before .before .before .before .before .before in
+    let at-loop-test = at-at-boundary .before .before .before .before .before in
+    let at-loop = at-loop-test .before in
+    let start = at-loop .before .before .before .before .before .before .before in (
+      code-going _ _ _ _ _ _ _ _ _ _ _ (at-loop .loop .inv .0) (omega (arith, at-loop-test .loop-test .taken, start .pre .1))
+          (at-at-boundary .at-boundary .ensures (kernelAdvance (start .args .kernel) (start .args .n))) (at-mark .mark .ensures .1)
+          (at-summed-rates .summed-rates .ensures) (sym (at-stopped .stopped .ensures) ∙ at-if1 .if1 .left)
+          (at-on-interval .on-interval .ensures) (sym (c .before .stopped2 .ensures) ∙ c .if2 .left),
+      omega (arith, at-loop-test .loop-test .taken, start .pre .1),
+      at-mark .mark .ensures .0 ∙ at-loop .loop .inv .2,
+    )
 
 at-boundary-requires-2 : tie.Need-at-boundary-requires-2 Inv-loop μ-loop
 at-boundary-requires-2 c κs =
-    let s = c .before .before .before .before .before .before .before .before .before .before .before .before in
-    let l = c .before .before .before .before .before .loop in
+    let at-loop = c .before .before .before .before .before in
+    let s = at-loop .before .before .before .before .before .before .before in
+    let l = at-loop .loop in
     let e : length (s .args .bounds .now) - 1 ≡ l .b = omega arith in
     (s .pre .0, rw e (end-room _ _ _ _ _ _ _ _ _ _ _ (l .inv .0) (omega arith)))
 
 returns-3 : tie.Need-returns-3 Inv-loop μ-loop
 unfolding ofBits
 returns-3 c =
-    let s = c .before .before .before .before .before .before .before .before .before .before .before .before .before .before .before .before .before .before .before in
-    let l = c .before .before .before .before .before .before .before .before .before .before .before .before .loop in
-    let e : length (s .args .bounds .now) - 1 ≡ l .b = omega arith in
-    ran-fresh (end-ran _ _ _ _ _ _ _ _ _ _ _ (l .inv .0) (omega arith) (rw e at (c .before .before .before .before .before .before .at-boundary2 .ensures (kernelAdvance (c .before .before .before .before .before .before .before .before .before .before .before .before .before .before .before .before .before .before .before .args .kernel) (c .before .before .before .before .before .before .before .before .before .before .before .before .before .before .before .before .before .before .before .args .n)))))
+    let at-at-boundary2 = c .before .before .before .before .before .before in
+    let at-loop = at-at-boundary2 .before .before .before .before .before .before in
+    let start = at-loop .before .before .before .before .before .before .before in
+    let l = at-loop .loop in
+    let e : length (start .args .bounds .now) - 1 ≡ l .b = omega arith in
+    ran-fresh (end-ran _ _ _ _ _ _ _ _ _ _ _ (l .inv .0) (omega arith) (rw e at (at-at-boundary2 .at-boundary2 .ensures
+    (kernelAdvance (start .args .kernel) (start .args .n)))))
 
 same-length-7 : tie.Need-same-length-7 Inv-loop μ-loop
 same-length-7 c = ran-same (returns-3 c) .times

@@ -13,8 +13,10 @@ slice-aggregate-sorted-unique c = sym (length-take-le _ _ (search needs))
 
 returns : tie.Need-returns
 returns c =
+    let at-lay = c .before .before .before .before .before .before in
+    let start = at-lay .before .before .before .before in
     let w = c .before .before .sorted-unique .ensures in
-    let f = front (c .before .before .before .before .before .before .before .before .before .before .args .samples .now) (drop (length (c .before .before .before .before .before .before .before .before .before .before .args .samples .now)) (c .before .before .before .before .before .before .before .before .before .before .args .readings .now)) (c .before .before .before .before .before .before .lay .ensures) in
+    let f = front (start .args .samples .now) (drop (length (start .args .samples .now)) (start .args .readings .now)) (at-lay .lay .ensures) in
     (simp length-append (omega (arith, w .0)), take-append-le _ _ _ (w .0) ∙ rw f at (w .1), rw f at (w .2))
 
 pub distinct-spec : {M : Type 1} → statement M

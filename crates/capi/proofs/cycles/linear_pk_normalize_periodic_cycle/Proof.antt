@@ -4,7 +4,9 @@ use Rattle.capi.proofs.cycles.linear_pk_normalize_periodic_cycle.Statem
 use Rattle.capi.proofs.cycles.linear_pk_normalize_periodic_cycle.Tie as tie
 
 returns : tie.Need-returns
-returns c = rw (← c .before .before .before .before .before .kernel-at .ensures, c .number .ensures) (c .before .before .before .fold-words .ensures)
+returns c =
+    let at-fold-words = c .before .before .before in
+    rw (← at-fold-words .before .before .kernel-at .ensures, c .number .ensures) (at-fold-words .fold-words .ensures)
 
 pub linear-pk-normalize-periodic-cycle-spec : {M : Type 1} → statement M
 linear-pk-normalize-periodic-cycle-spec = tie.close (tie.spec (λ c κs. search needs) (λ c κs. search needs) (λ c κs. search needs) (λ c. search needs) returns)

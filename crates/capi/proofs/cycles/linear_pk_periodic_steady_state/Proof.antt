@@ -4,7 +4,11 @@ use Rattle.capi.proofs.cycles.linear_pk_periodic_steady_state.Statement
 use Rattle.capi.proofs.cycles.linear_pk_periodic_steady_state.Tie as tie
 
 returns : tie.Need-returns
-returns c = rw (← c .before .before .before .before .before .before .before .before .kernel-at .ensures, c .number .ensures) (c .before .before .before .before .before .steady-words .ensures)
+returns c =
+    let at-steady-words = c .before .before .before .before .before in
+    rw (← at-steady-words .before .before .before .kernel-at .ensures, c .number .ensures) (at-steady-words .steady-words .ensures)
 
 pub linear-pk-periodic-steady-state-spec : {M : Type 1} → statement M
-linear-pk-periodic-steady-state-spec = tie.close (tie.spec (λ c κs. search needs) (λ c κs. search needs) (λ c κs. search needs) (λ c. search needs) (λ c. search needs) returns)
+linear-pk-periodic-steady-state-spec =
+    tie.close (tie.spec (λ c κs. search needs) (λ c κs. search needs) (λ c κs. search needs) (λ c. search needs)
+    (λ c. search needs) returns)

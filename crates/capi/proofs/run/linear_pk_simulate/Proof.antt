@@ -4,7 +4,10 @@ use Rattle.capi.proofs.run.linear_pk_simulate.Statement.{statement}
 use Rattle.capi.proofs.run.linear_pk_simulate.Tie as tie
 
 returns : tie.Need-returns
-returns c = rw (← c .before .before .before .before .before .before .before .before .before .before .kernel-at .ensures) (c .before .before .before .before .before .before .simulate-words .ensures)
+returns c =
+    let at-simulate-words = c .before .before .before .before .before .before in
+    let at-kernel-at = at-simulate-words .before .before .before .before in
+    rw (← at-kernel-at .kernel-at .ensures) (at-simulate-words .simulate-words .ensures)
 
 pub linear-pk-simulate-spec : {M : Type 1} → statement M
 linear-pk-simulate-spec =

@@ -4,6 +4,7 @@ use borrow.Author.Needs.{needs}
 use native.Mathlib.Omega.{arith}
 use Prim.Native.Nat.{_≤_, _-_}
 use lib.Ieee.{ofBits}
+use Rattle.limits.specs.Limits.{states}
 use Rattle.binary64.specs.Doubles.{plusZero}
 use Rattle.cycle.specs.Elimination.{reducedRight}
 use Rattle.matrix.proofs.Filled.{fill, fillFrom, fill-more, part-filled, tabulate-cong}
@@ -12,7 +13,7 @@ use Rattle.elimination_steps.proofs.right.reduced.Statement.{statement}
 use Rattle.elimination_steps.proofs.right.reduced.Tie as tie
 
 abbrev Inv-loop : tie.InvT-loop
-Inv-loop a right n k side₀ i₀ side i = (i ≤ n) × (side ≡ fill 4 i (reducedRight (record { matrix = a; right = right }) k) plusZero)
+Inv-loop a right n k side₀ i₀ side i = (i ≤ n) × (side ≡ fill states i (reducedRight (record { matrix = a; right = right }) k) plusZero)
 
 abbrev μ-loop : tie.MeasureT-loop
 μ-loop a right n k side₀ i₀ side i = n - i

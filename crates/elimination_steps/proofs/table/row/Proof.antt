@@ -4,6 +4,7 @@ use borrow.Author.Needs.{needs}
 use native.Mathlib.Omega.{arith}
 use Prim.Native.Nat.{_≤_, _-_}
 use lib.Ieee.{ofBits}
+use Rattle.limits.specs.Limits.{states}
 use Rattle.binary64.specs.Doubles.{plusZero}
 use Rattle.elimination_steps.specs.Tables.{cellOf}
 use Rattle.matrix.proofs.Filled.{fill, fillFrom, fill-more, filled}
@@ -11,10 +12,10 @@ use Rattle.elimination_steps.proofs.table.row.Statement.{statement}
 use Rattle.elimination_steps.proofs.table.row.Tie as tie
 
 abbrev Inv-loop : tie.InvT-loop
-Inv-loop cells a i row₀ j₀ row j = (j ≤ 4) × (row ≡ fill 4 j (cellOf cells a i) plusZero)
+Inv-loop cells a i row₀ j₀ row j = (j ≤ states) × (row ≡ fill states j (cellOf cells a i) plusZero)
 
 abbrev μ-loop : tie.MeasureT-loop
-μ-loop cells a i row₀ j₀ row j = 4 - j
+μ-loop cells a i row₀ j₀ row j = states - j
 
 loop-holds : tie.Need-loop-holds Inv-loop μ-loop
 unfolding fill fillFrom ofBits

@@ -6,6 +6,7 @@ use native.Mathlib.Omega.{arith}
 use Prim.Native.Nat.{_≤_, _-_}
 use lib.Ieee.{ofBits}
 use lib.ListN.{replicate}
+use Rattle.limits.specs.Limits.{states}
 use Rattle.binary64.specs.Doubles.{plusZero}
 use Rattle.matrix.specs.Matrix.{tabulate}
 use Rattle.matrix.specs.Arrays.{updated, updatedFrom}
@@ -16,7 +17,7 @@ use Rattle.elimination_steps.proofs.table.table.Statement.{statement}
 use Rattle.elimination_steps.proofs.table.table.Tie as tie
 
 abbrev Inv-loop : tie.InvT-loop
-Inv-loop cells a n rows₀ i₀ rows i = (i ≤ n) × (rows ≡ updated i (λ i x. tabulate 4 (cellOf cells a i)) (replicate 4 (replicate 4 plusZero)))
+Inv-loop cells a n rows₀ i₀ rows i = (i ≤ n) × (rows ≡ updated i (λ i x. tabulate states (cellOf cells a i)) (replicate states (replicate states plusZero)))
 
 abbrev μ-loop : tie.MeasureT-loop
 μ-loop cells a n rows₀ i₀ rows i = n - i
@@ -29,7 +30,9 @@ loop-again : tie.Need-loop-again Inv-loop μ-loop
 loop-again c = (omega arith, updated-more _ [] _ _ (c .before .before .loop .inv .1) (c .row .ensures))
 
 returns : tie.Need-returns Inv-loop μ-loop
-returns c = table-made _ (c .before .before .args .a .now) (c .before .before .args .cells) (c .before .before .pre) (updated-all _ _ _ _ (c .before .loop .inv .0) (c .loop-test .left) (c .before .loop .inv .1))
+returns c =
+    table-made _ (c .before .before .args .a .now) (c .before .before .args .cells) (c .before .before .pre)
+    (updated-all _ _ _ _ (c .before .loop .inv .0) (c .loop-test .left) (c .before .loop .inv .1))
 
 pub table-spec : {M : Type 1} → statement M
 table-spec =

@@ -4,10 +4,30 @@ use Rattle.elimination_system.proofs.pivot.larger.Statement.{statement}
 use Rattle.elimination_system.proofs.pivot.larger.Tie as tie
 
 returns : tie.Need-returns
-returns c = rw (← c .before .before .before .before .before .at .ensures, ← c .before .before .before .at2 .ensures, ← c .before .before .before .before .abs .ensures, ← c .before .before .abs2 .ensures, ← c .before .total-le .ensures, c .if1 .taken)
+returns c =
+    let at-at2 = c .before .before .before in
+    let at-abs = at-at2 .before in
+    rw (
+      ← at-abs .before .at .ensures,
+      ← at-at2 .at2 .ensures,
+      ← at-abs .abs .ensures,
+      ← c .before .before .abs2 .ensures,
+      ← c .before .total-le .ensures,
+      c .if1 .taken,
+    )
 
 returns-2 : tie.Need-returns-2
-returns-2 c = rw (← c .before .before .before .before .before .at .ensures, ← c .before .before .before .at2 .ensures, ← c .before .before .before .before .abs .ensures, ← c .before .before .abs2 .ensures, ← c .before .total-le .ensures, c .if1 .left)
+returns-2 c =
+    let at-at2 = c .before .before .before in
+    let at-abs = at-at2 .before in
+    rw (
+      ← at-abs .before .at .ensures,
+      ← at-at2 .at2 .ensures,
+      ← at-abs .abs .ensures,
+      ← c .before .before .abs2 .ensures,
+      ← c .before .total-le .ensures,
+      c .if1 .left,
+    )
 
 pub larger-spec : {M : Type 1} → statement M
 larger-spec =

@@ -9,7 +9,13 @@ use Rattle.elimination_system.proofs.pivot.least.Tie as tie
 
 returns : tie.Need-returns
 unfolding leastPivot ofBits
-returns c = rw (c .max .ensures, c .before .norm .ensures, norm-lead (c .before .before .args .n) (c .before .before .args .a .now) (c .before .before .args .n) (omega arith))
+returns c =
+    rw (
+      c .max .ensures,
+      c .before .norm .ensures,
+      norm-lead (c .before .before .args .n) (c .before .before .args .a .now)
+          (c .before .before .args .n) (omega arith),
+    )
 
 pub least-spec : {M : Type 1} → statement M
 least-spec =

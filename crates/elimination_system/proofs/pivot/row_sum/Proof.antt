@@ -24,7 +24,8 @@ loop-holds c = (omega arith, refl)
 
 loop-again : tie.Need-loop-again Inv-loop μ-loop
 unfolding sumTo
-loop-again c = (omega arith, rw (add-one, c .abs .ensures, c .before .at .ensures, c .before .before .before .loop .inv .1))
+loop-again c =
+    (omega arith, rw (add-one, c .abs .ensures, c .before .at .ensures, c .before .before .before .loop .inv .1))
 
 returns : tie.Need-returns Inv-loop μ-loop
 unfolding rowSum

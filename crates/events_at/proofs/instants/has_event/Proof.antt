@@ -11,7 +11,8 @@ use Rattle.events_at.proofs.instants.has_event.Statement.{statement}
 use Rattle.events_at.proofs.instants.has_event.Tie as tie
 
 abbrev Inv-loop : tie.InvT-loop
-Inv-loop reals words count t k₀ k = (k ≤ count) × (anyLeft (λ (x : Float). eq x t) instants (eventAt reals words) count k ≡ hasEvent t (packed reals words count))
+Inv-loop reals words count t k₀ k =
+    (k ≤ count) × (anyLeft (λ (x : Float). eq x t) instants (eventAt reals words) count k ≡ hasEvent t (packed reals words count))
 
 abbrev μ-loop : tie.MeasureT-loop
 μ-loop reals words count t k₀ k = count - k
@@ -21,13 +22,30 @@ unfolding packed
 loop-holds c = (omega arith, rw left-start)
 
 returns : tie.Need-returns Inv-loop μ-loop
-returns c = any-found (λ (x : Float). eq x (c .before .before .before .before .before .args .t)) instants (eventAt (c .before .before .before .before .before .args .reals .now) (c .before .before .before .before .before .args .words .now)) (c .before .before .before .before .before .args .count) (c .before .before .before .before .loop .k) (c .before .before .before .loop-test .taken) (rw (c .before .before .event-at .ensures) at (c .before .happens-at .ensures)) (c .if1 .taken) (c .before .before .before .before .loop .inv .1)
+returns c =
+    let at-loop-test = c .before .before .before in
+    let at-loop = at-loop-test .before in
+    let start = at-loop .before in
+    any-found (λ (x : Float). eq x (start .args .t)) instants (eventAt (start .args .reals .now) (start .args .words .now))
+    (start .args .count) (at-loop .loop .k) (at-loop-test .loop-test .taken) (rw (c .before .before .event-at .ensures) at
+    (c .before .happens-at .ensures)) (c .if1 .taken) (at-loop .loop .inv .1)
 
 loop-again : tie.Need-loop-again Inv-loop μ-loop
-loop-again c = (omega arith, any-more (λ (x : Float). eq x (c .before .before .before .before .before .args .t)) instants (eventAt (c .before .before .before .before .before .args .reals .now) (c .before .before .before .before .before .args .words .now)) (c .before .before .before .before .before .args .count) (c .before .before .before .before .loop .k) (c .before .before .before .loop-test .taken) (rw (c .before .before .event-at .ensures) at (c .before .happens-at .ensures)) (c .if1 .left) (c .before .before .before .before .loop .inv .1))
+loop-again c =
+    let at-loop-test = c .before .before .before in
+    let at-loop = at-loop-test .before in
+    let start = at-loop .before in (
+      omega arith,
+      any-more (λ (x : Float). eq x (start .args .t)) instants (eventAt (start .args .reals .now) (start .args .words .now))
+          (start .args .count) (at-loop .loop .k) (at-loop-test .loop-test .taken) (rw (c .before .before .event-at .ensures) at
+          (c .before .happens-at .ensures)) (c .if1 .left) (at-loop .loop .inv .1),
+    )
 
 returns-2 : tie.Need-returns-2 Inv-loop μ-loop
-returns-2 c = any-none (λ (x : Float). eq x (c .before .before .args .t)) instants (eventAt (c .before .before .args .reals .now) (c .before .before .args .words .now)) (c .before .before .args .count) (c .before .loop .k) (c .loop-test .left) (c .before .loop .inv .1)
+returns-2 c =
+    any-none (λ (x : Float). eq x (c .before .before .args .t)) instants (eventAt (c .before .before .args .reals .now)
+    (c .before .before .args .words .now)) (c .before .before .args .count) (c .before .loop .k) (c .loop-test .left) (c .before .loop .inv
+    .1)
 
 pub has-event-spec : {M : Type 1} → statement M
 has-event-spec =

@@ -19,11 +19,16 @@ loop-holds c = (omega arith, behind-start _ _ _ _ _)
 
 loop-again : tie.Need-loop-again Inv-loop μ-loop
 loop-again c =
-    let g = c .before .before .before .before .before .args in
-    let l = c .before .before .before .before .loop in
+    let at-loop = c .before .before .before .before in
+    let g = at-loop .before .args in
+    let l = at-loop .loop in
     let v = c .before .before .event-at .ensures in
     let s = rw v at (c .before .stops-at .ensures) in
-    ⊎-elim (λ w. (omega arith, behind-more (g .t) (g .reals .now) (g .words .now) (g .count) (g .marks .now) (l .i) (w .1 .result) (sym s ∙ w .0 .taken) (rw v at (w .1 .ensures)) (l .inv .1) (w .4 ∙ w .3 .ensures)))
+    ⊎-elim (λ w. (
+      omega arith,
+      behind-more (g .t) (g .reals .now) (g .words .now) (g .count) (g .marks .now) (l .i) (w .1 .result)
+          (sym s ∙ w .0 .taken) (rw v at (w .1 .ensures)) (l .inv .1) (w .4 ∙ w .3 .ensures),
+    ))
     (λ w. (omega arith, behind-skip (g .t) (g .reals .now) (g .words .now) (g .count) (g .marks .now) (l .i) (sym s ∙ w .0 .left) (w .1 ∙ l .inv .1)))
     (c .if1 .came)
 

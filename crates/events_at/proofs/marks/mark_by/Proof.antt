@@ -19,7 +19,9 @@ loop-holds : tie.Need-loop-holds Inv-loop μ-loop
 loop-holds c = (omega arith, marked-none _ _ _ _ _)
 
 loop-again : tie.Need-loop-again Inv-loop μ-loop
-loop-again c = (omega arith, marked-more _ _ _ _ _ _ (rw (c .before .event-at .ensures) at (c .runs .ensures)) (c .before .before .before .before .loop .inv .1))
+loop-again c =
+    let at-loop = c .before .before .before .before in
+    (omega arith, marked-more _ _ _ _ _ _ (rw (c .before .event-at .ensures) at (c .runs .ensures)) (at-loop .loop .inv .1))
 
 returns : tie.Need-returns Inv-loop μ-loop
 returns c = rw (le-antisymm (c .before .loop .inv .0) (c .loop-test .left)) at (c .before .loop .inv .1)

@@ -8,10 +8,24 @@ returns : tie.Need-returns
 returns c = rw (← c .before .volumes-pass .ensures, not-true (c .before .volumes-pass .result) (c .if1 .taken))
 
 returns-2 : tie.Need-returns-2
-returns-2 c = rw (← c .before .before .before .volumes-pass .ensures, not-false (c .before .before .before .volumes-pass .result) (c .before .before .if1 .left), ← c .before .rates-finite .ensures, not-true (c .before .rates-finite .result) (c .if2 .taken))
+returns-2 c =
+    let at-volumes-pass = c .before .before .before in
+    rw (
+      ← at-volumes-pass .volumes-pass .ensures,
+      not-false (at-volumes-pass .volumes-pass .result) (c .before .before .if1 .left),
+      ← c .before .matrix-finite .ensures,
+      not-true (c .before .matrix-finite .result) (c .if2 .taken),
+    )
 
 returns-3 : tie.Need-returns-3
-returns-3 c = rw (← c .before .before .before .volumes-pass .ensures, not-false (c .before .before .before .volumes-pass .result) (c .before .before .if1 .left), ← c .before .rates-finite .ensures, not-false (c .before .rates-finite .result) (c .if2 .left))
+returns-3 c =
+    let at-volumes-pass = c .before .before .before in
+    rw (
+      ← at-volumes-pass .volumes-pass .ensures,
+      not-false (at-volumes-pass .volumes-pass .result) (c .before .before .if1 .left),
+      ← c .before .matrix-finite .ensures,
+      not-false (c .before .matrix-finite .result) (c .if2 .left),
+    )
 
 pub check-spec : {M : Type 1} → statement M
 check-spec =

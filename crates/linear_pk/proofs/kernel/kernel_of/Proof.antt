@@ -6,7 +6,15 @@ use Rattle.linear_pk.proofs.kernel.kernel_of.Tie as tie
 
 returns : tie.Need-returns
 unfolding kernelOf
-returns c = rw (c .before .rates .ensures, c .before .before .absorbed .ensures, c .before .before .before .central .ensures .0, c .padded-volumes .ensures, c .before .before .before .before .has-depot .ensures)
+returns c =
+    let at-central = c .before .before .before in
+    rw (
+      c .before .matrix .ensures,
+      c .before .before .absorbed .ensures,
+      at-central .central .ensures .0,
+      c .padded-volumes .ensures,
+      at-central .before .has-depot .ensures,
+    )
 
 pub kernel-of-spec : {M : Type 1} → statement M
 kernel-of-spec =

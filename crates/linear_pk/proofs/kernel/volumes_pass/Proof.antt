@@ -4,14 +4,14 @@ use mathlib.Core.Bool.{true}
 use Prim.Native.Nat.{ℕ}
 use borrow.Author.Needs.{needs}
 use native.Mathlib.Omega.{arith}
-use Rattle.linear_pk.specs.LinearPk.{counted, stateCount}
+use Rattle.linear_pk.specs.LinearPk.{compartmentsPass, stateCount}
 use Rattle.linear_pk.specs.declared.kernel.LinearPk.{LinearPk}
 use Rattle.linear_pk.proofs.Counted.{no-states, some-states, few-volumes, volumes-by}
 use Rattle.linear_pk.proofs.kernel.volumes_pass.Statement.{statement}
 use Rattle.linear_pk.proofs.kernel.volumes_pass.Tie as tie
 
 -- states say that the count passes
-counts : (k : LinearPk) {n : ℕ} → n ≡ stateCount k → (n ≡ 0 → ⊥) → counted k ≡ true
+counts : (k : LinearPk) {n : ℕ} → n ≡ stateCount k → (n ≡ 0 → ⊥) → compartmentsPass k ≡ true
 counts k e n = some-states k (λ z. n (e ∙ z))
 
 returns : tie.Need-returns
@@ -27,4 +27,8 @@ volumes-pass-spec =
     tie.close
     (tie.spec
     (λ c κs. search needs) returns
-    (λ c κs. let s = c .before in omega (arith, few-volumes (s .before .before .args .kernel) (counts _ (s .before .state-count .ensures .0) (s .if1 .left)))) returns-2)
+    (λ c κs. let s = c .before in omega (
+      arith,
+      few-volumes (s .before .before .args .kernel)
+          (counts _ (s .before .state-count .ensures .0) (s .if1 .left)),
+    )) returns-2)

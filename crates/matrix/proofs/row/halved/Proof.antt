@@ -4,6 +4,7 @@ use borrow.Author.Needs.{needs}
 use native.Mathlib.Omega.{arith}
 use Prim.Native.Nat.{_≤_, _-_}
 use lib.Ieee.{binary64, mul, ofBits}
+use Rattle.limits.specs.Limits.{block}
 use Rattle.binary64.specs.Doubles.{plusZero, half}
 use Rattle.matrix.specs.Matrix.{cell}
 use Rattle.matrix.specs.Arrays.{rowHalf}
@@ -12,10 +13,10 @@ use Rattle.matrix.proofs.row.halved.Statement.{statement}
 use Rattle.matrix.proofs.row.halved.Tie as tie
 
 abbrev Inv-loop : tie.InvT-loop
-Inv-loop row next₀ j₀ next j = (j ≤ 8) × (next ≡ fill 8 j (λ j. mul binary64 (cell row j) half) plusZero)
+Inv-loop row next₀ j₀ next j = (j ≤ block) × (next ≡ fill block j (λ j. mul binary64 (cell row j) half) plusZero)
 
 abbrev μ-loop : tie.MeasureT-loop
-μ-loop row next₀ j₀ next j = 8 - j
+μ-loop row next₀ j₀ next j = block - j
 
 loop-holds : tie.Need-loop-holds Inv-loop μ-loop
 unfolding fill fillFrom ofBits

@@ -22,7 +22,8 @@ unfolding rowTimes tabulate tabulateFrom sumTo ofBits neg
 loop-holds c = (omega arith, refl)
 
 loop-again : tie.Need-loop-again Inv-loop μ-loop
-loop-again c = (omega arith, times-more _ _ _ (c .before .before .before .loop .inv .1) (c .plus-scaled .ensures))
+loop-again c =
+    (omega arith, times-more _ _ _ (c .before .before .before .loop .inv .1) (c .plus-scaled .ensures))
 
 returns : tie.Need-returns Inv-loop μ-loop
 returns c = rw (le-antisymm (c .before .loop .inv .0) (c .loop-test .left)) at (c .before .loop .inv .1)

@@ -13,15 +13,32 @@ returns c = (rw (c .if1 .taken), omega arith)
 
 returns-2 : tie.Need-returns-2
 unfolding stateCount
-returns-2 c = (rw (lt-ltb 0 (c .before .before .args .self .compartments) (omega arith), lt-leb (c .before .before .args .self .compartments) 3 (c .if2 .taken)), omega arith)
+returns-2 c = (
+  rw (
+    lt-ltb 0 (c .before .before .args .self .compartments) (omega arith),
+    lt-leb (c .before .before .args .self .compartments) 3 (c .if2 .taken),
+  ),
+  omega arith,
+)
 
 returns-3 : tie.Need-returns-3
 unfolding stateCount
-returns-3 c = (rw (lt-ltb 0 (c .before .before .before .args .self .compartments) (omega arith), le-leb (c .before .before .before .args .self .compartments) 3 (omega arith), c .if3 .taken), omega arith)
+returns-3 c =
+    let start = c .before .before .before in
+    (rw (lt-ltb 0 (start .args .self .compartments) (omega arith), le-leb (start .args .self .compartments) 3 (omega arith), c .if3 .taken), omega arith)
 
 returns-4 : tie.Need-returns-4
 unfolding stateCount
-returns-4 c = (rw (lt-ltb 0 (c .before .before .before .args .self .compartments) (omega arith), le-leb (c .before .before .before .args .self .compartments) 3 (omega arith), c .if3 .left, add-zero), omega arith)
+returns-4 c =
+    let start = c .before .before .before in (
+      rw (
+        lt-ltb 0 (start .args .self .compartments) (omega arith),
+        le-leb (start .args .self .compartments) 3 (omega arith),
+        c .if3 .left,
+        add-zero,
+      ),
+      omega arith,
+    )
 
 pub state-count-spec : {M : Type 1} → statement M
 state-count-spec =
