@@ -13,11 +13,17 @@
  * States are the depot (if there is one), central, then the peripherals:
  * n is 1 to 4. Amounts, volumes and times are in one coherent set of units.
  *
- * A slice is a pointer and a count of doubles, of any length and contents.
- * No two slices of one call may overlap if one of them is written. A pointer
- * is never NULL: an empty slice has any aligned pointer and the count 0.
+ * A slice is a pointer and a count of doubles, of words or of bytes, of any
+ * length and contents. No two slices of one call may overlap if one of them is
+ * written. A pointer is never NULL: an empty slice has any aligned pointer and
+ * the count 0.
  *
- * Each function replies 0, or the number of a refusal:
+ * The bits of every answer rest on the floating-point environment of the caller,
+ * which is neither set nor tested here: round to nearest, ties to even; no flush
+ * to zero, no denormals-are-zero. A program that is linked with -ffast-math, or
+ * calls fesetround, may have another, and then other answers.
+ *
+ * Each function but linear_pk_state_count replies 0, or the number of a refusal:
  *    1  parameters outside those that linear_pk_new takes, or a kernel with a count,
  *       a depot or a volume that it does not give
  *    2  a rate that is not finite
@@ -48,8 +54,12 @@
  *   36  a scaled residual that is not finite or above 1
  *   40  words that are no events, or bytes that are no sheet
  * Where several hold, the first in the order that each function lists is given.
- * A refusal leaves every slice as it was, but for a run that stopped once begun,
- * which leaves zeros. Cells behind an answer never change.
+ *
+ * What the written slices hold at a refusal: doubles, sides and words are as they
+ * were, but for a run of linear_pk_simulate that stopped once begun, which leaves
+ * its reckoned rows zero; the bytes of rig_run_sheet and rig_steady_sheet are the
+ * `refused` line, and as they were where the printout has no room. Cells behind
+ * an answer, behind the reckoned rows or behind a printout never change.
  */
 #ifndef LINEAR_PK_H
 #define LINEAR_PK_H
@@ -80,9 +90,9 @@ uint64_t linear_pk_new(double clearance,
                        bool depot, double absorption,
                        double *kernel, size_t kernel_len);
 
-/* The number of states n, or 0 where the cells are no kernel: fewer than 21, a
- * number of volumes other than 1, 2, 3, or a depot other than 0, 1. Volumes and
- * rates are not looked at. */
+/* Replies n, the number of states, and no refusal: 0 where the cells hold no
+ * kernel, which is fewer than 21 cells, a number of volumes other than 1, 2, 3,
+ * or a depot other than 0, 1. Volumes and rates are not looked at. */
 uint64_t linear_pk_state_count(const double *kernel, size_t kernel_len);
 
 /* The amounts after a duration at constant input rates (amount by time), n of
@@ -129,14 +139,20 @@ uint64_t linear_pk_bind(const double *kernel, size_t kernel_len,
  * the same time and order, whatever their targets. Samples come in any order.
  *
  * Replies 0, or the first number that holds of 40, 5, 1, 2, 3, 13, 10, 11, 12,
- * 14, 4 ahead of the run, or 3 (a time less a boundary's overflows), 20, 21, 22,
- * 30, 31, 32 in it. times and sides have R cells or more, values R * n or more.
+ * 14, 4 ahead of the run, or the first that the run meets: at a boundary 31, of
+ * the state and behind each reset and bolus; 32 of the summed rates; at
+ * each reading, and then at the next boundary, 30, 3 (its time less the
+ * boundary's overflows), 20, 21, 22. So an advance beyond the budget is 30 before
+ * the kernel is asked. times and sides have R cells or more, values R * n or more.
  *
- * On 0 the first *rows cells of times and sides are the rows, the amounts of row
- * k stand in values from place k * n on, and the rest of the R rows is zero. A
- * run that stopped leaves its R rows zero and gives the time of the row or
- * boundary where it stopped (+0 for 32) and the advances made, the refused one
- * counted. Else *time is +0 and *rows 0, and any other refusal has *advances 0. */
+ * *time, *rows and *advances are written at every reply.
+ *   0              the first *rows cells of times and sides are the rows, the
+ *                  amounts of row k stand in values from place k * n on, and the
+ *                  rest of the R rows is zero; *advances are those made, *time +0
+ *   in the run     the R rows are zero and *rows is 0; *time is that of the row or
+ *                  boundary where the run stopped (+0 for 32), *advances those made
+ *                  up to there, a refused one counted, the one beyond the budget too
+ *   ahead of it    the slices are as they were, *time +0, *rows 0, *advances 0 */
 uint64_t linear_pk_simulate(const double *kernel, size_t kernel_len,
                             const double *amounts, size_t amounts_len,
                             double start, double end, double rtol, double atol,
@@ -170,21 +186,24 @@ uint64_t linear_pk_normalize_periodic_cycle(const double *kernel, size_t kernel_
                                             uint64_t *folded, size_t folded_len, size_t *count);
 
 /* The amounts just before the start of a cycle that repeats itself, with the
- * residuals of a run from them: the amounts at the end less those at the start.
+ * residuals of a run from them. The residual of a state is end - start, with its
+ * sign: the amount at the end of that run less the one at its start. The scaled
+ * residual is a magnitude, |end - start| over the scale, which is
+ * absolute + relative * the larger of |start| and |end|.
  *
  * The events are folded as above. The runs that this takes, n + 2 of them, share
  * the budgets, each divided by n + 2; samples are tested, and not used. Accepted
  * is a solution that is finite and at least 0, whose own run reaches the end, and
- * whose residuals are, state by state, at most absolute + relative * the larger
- * of |start| and |end|.
+ * whose scales are finite and scaled residuals finite and at most 1, state by
+ * state.
  *
  * Replies 0, or the first number that holds of 40, 5, 1, 2, 19, those of
  * linear_pk_normalize_periodic_cycle from 15 on, 13 and 14 on the divided
- * budgets, 4, then 20, 21, 22, 30, 31, 32 in a run, 33, 34, 22 or 31 in the run
- * of the solution, 35, 36. On 0 the first n cells of amounts and of residual are
- * the answer, and *maximum the greatest scaled residual. At a refusal both
- * slices stay as they were, *maximum is +0, and *time is the time of the row or
- * boundary where a run stopped, else +0. */
+ * budgets, 4, then 31, 32, 30, 20, 21, 22 in a run, as in linear_pk_simulate, 33,
+ * 34, 22 or 31 in the run of the solution, 35, 36. On 0 the first n cells of
+ * amounts and of residual are the answer, *maximum is the greatest scaled
+ * residual and *time +0. At a refusal both slices stay as they were, *maximum is
+ * +0, and *time is the time of the row or boundary where a run stopped, else +0. */
 uint64_t linear_pk_periodic_steady_state(const double *kernel, size_t kernel_len,
                                          double start, double end, double rtol, double atol,
                                          uint64_t propagations, size_t event_budget, size_t output_budget,
@@ -203,7 +222,7 @@ uint64_t linear_pk_periodic_steady_state(const double *kernel, size_t kernel_len
  * lines of the printout out, from the front of out; *length is how many bytes
  * they are. The reply is the printout's number: 0 where it tells a run that
  * reached its end, else the number of its `refused` line: 40, 5, 1, 2, 3, 13,
- * 10, 11, 12, 14 ahead of the run, or 3, 20, 21, 22, 30, 31, 32 in it. 5 stands
+ * 10, 11, 12, 14 ahead of the run, or 31, 32, 30, 3, 20, 21, 22 in it. 5 stands
  * for more than 64 events or 256 samples. A propagation word of 0 is 1,000.
  * Where out is too short for the printout nothing is written and *length is 0; a
  * run that reached its end is then 4, a refusal keeps its number.
@@ -215,10 +234,11 @@ uint64_t rig_run_sheet(const uint8_t *sheet, size_t sheet_len,
 #define RIG_STEADY_BYTES 157
 
 /* The closed cycle of a sheet, as rig-steady prints it: a line for each state,
- * its amount and its residual, then `max` and the greatest scaled residual; or
- * its `refused` line. The amounts of the sheet are passed over. The reply, *length
- * and out are as in rig_run_sheet; the numbers are 40, 5, 1, 2, 19, then those of
- * linear_pk_periodic_steady_state. RIG_STEADY_BYTES are enough for every sheet. */
+ * its amount and its residual, end - start, then `max` and the greatest scaled
+ * residual; or its `refused` line. The amounts of the sheet are passed over. The
+ * reply, *length and out are as in rig_run_sheet; the numbers are 40, 5, 1, 2, 19,
+ * then those of linear_pk_periodic_steady_state. RIG_STEADY_BYTES are enough for
+ * every sheet. */
 uint64_t rig_steady_sheet(const uint8_t *sheet, size_t sheet_len,
                           uint8_t *out, size_t out_len, size_t *length);
 
