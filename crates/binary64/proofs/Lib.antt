@@ -1,4 +1,4 @@
--- The laws that the functions' proofs rest on, here and in `total_order`.
+-- The laws that the functions' proofs rest on, here and in `binary64_order`.
 pub mod Tests
 pub mod Folds
 pub mod Units

@@ -59,7 +59,7 @@ unfoldable pub smaller : Float → Float → Float
 unfolding isNan totalLe
 smaller x y = cond (isNan y) x (cond (isNan x) y (cond (totalLe x y) x y))
 
--- What `key`, private to `total_order`, makes of a pattern: every bit is turned where the sign is set, and the sign alone where it is not.
+-- What `key`, private to `binary64_order`, makes of a pattern: every bit is turned where the sign is set, and the sign alone where it is not.
 unfoldable pub key64 : ℕ → ℕ
 key64 b = bitXor b (cond (leb 0x8000_0000_0000_0000 b) 0xffff_ffff_ffff_ffff 0x8000_0000_0000_0000)
 

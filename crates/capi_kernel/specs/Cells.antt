@@ -1,4 +1,4 @@
--- A new kernel and a bound kernel as cells. How a kernel is laid out is in `kernel_reading/specs/Reading.antt` and `kernel_writing/specs/Writing.antt`.
+-- A new kernel and a bound kernel as cells. How a kernel is laid out is in `capi_kernel_cells/specs/Reading.antt` and `capi_kernel_cells/specs/Writing.antt`.
 use mathlib.Core.List.{List}
 use Prim.Native.Nat.{ℕ}
 use lib.Dec.{leb}

@@ -44,7 +44,7 @@ module _ (k : LinearPk) (a : List Float) (w : Window) (ws : List ℕ) (ss : List
   unfolding simulateWords
   fits-run = rw h
 
-  -- up to 192 events are the array's first
+  -- up to the most of a run, events are the array's first
   few : leb (eventCount ws) mostEvents ≡ true → (entry ≡ simulateWords k a w ws ss cells) × (take (eventCount ws) list ≡ eventsOf ws)
   unfolding simulateEntry
   few e =

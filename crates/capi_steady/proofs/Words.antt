@@ -40,7 +40,7 @@ module _ (k : LinearPk) (w : Window) (ss : List Float) (ws : List ℕ) (tol : St
       front-events mostEvents ws (omega arith) ∙ sym (take-all (eventCount ws) (eventsOf ws) (omega (arith, tabulate-length (eventOf ws) (eventCount ws)))) in
       rw t
 
-  -- more than 64 are 5 either way
+  -- more than the most of a cycle are 5 either way
   many : leb (eventCount ws) mostCycleEvents ≡ false → read ≡ given
   unfolding steadyEntry
   many e = rw e

@@ -20,10 +20,10 @@ use Rattle.protocol.specs.declared.Event.the-variants.{Bolus, Infusion, Reset}
 use Rattle.protocol.specs.declared.Window.{Window}
 use Rattle.protocol.specs.First as F
 use Rattle.protocol.specs.Events.{time, target}
-use Rattle.protocol.specs.Prepare.{windowPasses, within, sameReset, eventPasses, eventsPass, reckoned, prepare}
+use Rattle.protocol.specs.Prepare.{windowPasses, within, sameReset, eventPasses, eventsPass, reckoned, validate, prepare}
 use Rattle.protocol.proofs.ListLaws.{both, and-T}
 use Rattle.cycle.specs.Fold.{period, cyclePasses, countPasses, timePasses, infusionPasses, stopping, stopOf, whole, piece, tail}
-use Rattle.cycle.specs.Fold.{parts, wholePeriods, infusionPieces, pieces, withEvent, withEvents, validated, fold}
+use Rattle.cycle.specs.Fold.{parts, wholePeriods, infusionPieces, pieces, withEvent, withEvents, passing, fold}
 use Rattle.cycle.specs.Closed.{divided, zeroed, homogeneous}
 use Rattle.cycle.specs.FoldLaws.{budgetNumber, EveryFold}
 use Rattle.cycle.proofs.Rounding.{zero-value}
@@ -127,18 +127,24 @@ pub record Folded (n : ℕ) (w : Window) (es fs : List Event) : Type 0 where
   pub events-pass : T (eventsPass n w [] fs)
 
 pub fold-gives : (n : ℕ) (w : Window) (ss : List Float) (es : List Event) → Gives folding (Folded n w es) (fold n w ss es)
-unfolding fold validated
+unfolding fold validate
 fold-gives n w ss es =
     gives-test folding G (cyclePasses w) 15 es _ tt
     (λ c. gives-test folding G (countPasses w es) 13 es _ tt
-    (λ _. gives-then folding G (Made w es []) (withEvents w es es []) (validated n w ss) (events-made w es es [])
-    (λ fs h. gives-test folding G (windowPasses w) 10 fs _ tt
-    (λ p. gives-test folding G (all (within w) ss) 11 fs _ tt
-    (λ _. gives-last folding G (eventsPass n w [] fs) 12 fs tt
-    (λ q. record { cycle = c; few = omega arith; times = λ s f. h .times s f tt; window-passes = p; events-pass = q }))))))
+    (λ _. gives-then folding G (Made w es []) (withEvents w es es []) (λ fs. passing (validate n w ss fs) fs) (events-made w es es [])
+    (λ fs h. three (windowPasses w) (all (within w) ss) (eventsPass n w [] fs) fs
+    (λ p q. record { cycle = c; few = omega arith; times = λ s f. h .times s f tt; window-passes = p; events-pass = q }))))
   where
     G : List Event → Type 0
     G = Folded n w es
+
+    -- 10, 11, 12, or what holds of the list
+    three : (a b c : Bool) (fs : List Event) → (T a → T c → G fs)
+        → Gives folding G (passing (F.firstOf (F.unless a 10 ∷ F.unless b 11 ∷ F.unless c 12 ∷ [])) fs)
+    three true true true fs h = h tt tt
+    three true true false fs h = tt
+    three true false c fs h = tt
+    three false b c fs h = tt
 
 module _ (n : ℕ) (w : Window) (ss : List Float) (es fs : List Event) (q : fold n w ss es ≡ done fs) where
   pub folded : Folded n w es fs
@@ -231,7 +237,7 @@ zeroed-times (Reset t i v o c ∷ es) = ap (_&&_ (fits binary64 t)) (zeroed-time
 
 -- ---- an inner preparation
 only-budgets : (a b c d e : Bool) → T b → T c → T d
-    → F.firstOf (F.unless a 13 ∷ F.unless b 10 ∷ F.unless c 11 ∷ F.unless d 12 ∷ F.unless e 14 ∷ []) ≡ F.firstOf (F.unless a 13 ∷ F.unless e 14 ∷ [])
+    → F.firstOf (F.unless a 13 ∷ F.firstOf (F.unless b 10 ∷ F.unless c 11 ∷ F.unless d 12 ∷ []) ∷ F.unless e 14 ∷ []) ≡ F.firstOf (F.unless a 13 ∷ F.unless e 14 ∷ [])
 only-budgets false b c d e B C D = refl
 only-budgets true false c d e B C D = absurd B
 only-budgets true true false d e B C D = absurd C
@@ -240,7 +246,7 @@ only-budgets true true true true e B C D = refl
 
 inner : (n k : ℕ) (w : Window) (es : List Event) → T (windowPasses w) → T (eventsPass n w [] es)
     → prepare n (divided k w) [] es ≡ budgetNumber n (divided k w) es
-unfolding prepare divided
+unfolding prepare validate divided
 inner n k w es h p =
     only-budgets (leb (length es) (divided k w .events)) (windowPasses w) true (eventsPass n (divided k w) [] es)
     (leb (reckoned [] es * n) (divided k w .outputs)) h tt (subst T (sym (divided-events n k w [] es)) p)

@@ -15,7 +15,7 @@ use Rattle.matrix.specs.Matrix.{at}
 use Rattle.protocol.specs.declared.Event.{Event}
 use Rattle.protocol.specs.declared.Window.{Window}
 use Rattle.protocol.specs.Execute.{Propagator, State, Outcome, go, stop, runOf}
-use Rattle.protocol.specs.PlainRun.{Conditions, KernelLaws, Prepared, Cycle, Reached}
+use Rattle.protocol.specs.PlainRun.{stopNumbers, Conditions, KernelLaws, Prepared, Cycle, Reached}
 use Rattle.protocol.proofs.ListLaws.{both, and-T}
 use Rattle.protocol.proofs.Conditions.{stop-numbers}
 use Rattle.protocol.proofs.Theorems.{plain-run}
@@ -98,7 +98,7 @@ module _ (n : ℕ) (advance : Propagator) {Refuses : Conditions} (laws : KernelL
     where
       on : (o : Outcome) → runOf advance n (divided n w) [] fs a ≡ o → Hands closedNumbers (Ends advance n w fs a) (endOf o)
       on (go z) e = record { left = z; ran = e; last = refl }
-      on (stop c t z) e = among c (20 ∷ 21 ∷ 22 ∷ 30 ∷ 31 ∷ 32 ∷ []) closedNumbers tt (stop-numbers n advance laws (divided n w) [] fs p a h k c t z e)
+      on (stop c t z) e = among c stopNumbers closedNumbers tt (stop-numbers n advance laws (divided n w) [] fs p a h k c t z e)
 
   module _ (es fs : List Event) (i : Inner n w es fs) where
     abbrev Any : List (List Float) → Type 0

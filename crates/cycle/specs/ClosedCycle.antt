@@ -20,7 +20,7 @@ use Rattle.protocol.specs.Execute.{Propagator, State, go, stop, runOf}
 use Rattle.protocol.specs.PlainRun.{oneOf, Conditions, KernelLaws, Reached}
 use Rattle.cycle.specs.declared.SteadyStateTolerance.{SteadyStateTolerance}
 use Rattle.cycle.specs.Elimination.{systemOf, solve}
-use Rattle.cycle.specs.Closed.{stopped, got, divided, ready, homogeneous, lastPost, unit, lastOf, candidateOf, scaleOf, scaledOf}
+use Rattle.cycle.specs.Closed.{Timed, stopped, got, divided, ready, homogeneous, lastPost, unit, lastOf, candidateOf, scaleOf, scaledOf}
 use Rattle.cycle.specs.Closed.{residualsOf, SteadyState, closed}
 
 -- ---- what is given
@@ -83,10 +83,16 @@ pub data Rejects (advance : Propagator) (n : ℕ) (w : Window) (tol : SteadyStat
   -- 34 where it is not finite or below 0
   candidate-fails : T (not (all nonnegative c)) → Rejects advance n w tol fs c 34 plusZero
   -- else the number and the time of its own run
-  run-stops : {m : ℕ} {t : Float} {z : State} → T (all nonnegative c) → runOf advance n (divided n w) [] fs c ≡ stop m t z → Rejects advance n w tol fs c m t
+  run-stops : {m : ℕ} {t : Float} {z : State}
+      → T (all nonnegative c)
+      → runOf advance n (divided n w) [] fs c ≡ stop m t z
+      → Rejects advance n w tol fs c m t
   -- else 35 or 36 of the first state that fails
-  state-fails : {m : ℕ} {z : State} → T (all nonnegative c) → runOf advance n (divided n w) [] fs c ≡ go z
-      → FirstFails tol c (lastPost [] (z .rows)) n m → Rejects advance n w tol fs c m plusZero
+  state-fails : {m : ℕ} {z : State}
+      → T (all nonnegative c)
+      → runOf advance n (divided n w) [] fs c ≡ go z
+      → FirstFails tol c (lastPost [] (z .rows)) n m
+      → Rejects advance n w tol fs c m plusZero
 
 -- ---- the answer
 -- the greatest of the first k scaled residuals, from +0
@@ -100,28 +106,44 @@ pub record CandidateAnswer (n : ℕ) (tol : SteadyStateTolerance) (c e : List Fl
   pub residuals : s .residuals ≡ residualsOf n c e
   pub maximum : s .maximum ≡ maximumTo tol c e n
 
-pub record ClosedCycle (advance : Propagator) (n : ℕ) (w : Window) (ss : List Float) (es : List Event) (tol : SteadyStateTolerance) : Type 0 where
-  pub numbers : (c : ℕ) (t : Float) → closed advance n w ss es tol true ≡ stopped c t → T (oneOf c closedNumbers)
-  -- the candidate is what elimination yields
-  pub yields : (c : List Float) → (candidateOf advance n w ss es tol ≡ got c) ↔ Yields advance n w ss es tol c
-  -- where there is one, some answer is given exactly when the candidate is accepted
-  pub accepts : (c : List Float) (y : Yields advance n w ss es tol c) → ((s : SteadyState) × (closed advance n w ss es tol true ≡ got s))
-      ↔ Accepts advance n w tol (y .folded) c
-  -- and the answer is the candidate, with the residuals of its own run
-  pub answer : (c : List Float) (y : Yields advance n w ss es tol c) (a : Accepts advance n w tol (y .folded) c) (s : SteadyState)
-      → closed advance n w ss es tol true ≡ got s
-      → CandidateAnswer n tol c (lastPost [] (a .left .rows)) s
-  -- and else the refusal is that of the first test that fails
-  pub rejects : (c : List Float) (y : Yields advance n w ss es tol c) (m : ℕ) (t : Float)
-      → (closed advance n w ss es tol true ≡ stopped m t) ↔ Rejects advance n w tol (y .folded) c m t
-  -- no answer without a candidate; where there is none, the refusal ahead of it or 33 is the reply
-  pub needs : (s : SteadyState) → closed advance n w ss es tol true ≡ got s → Yields advance n w ss es tol (s .amounts)
-  pub refuses : (c : ℕ) (t : Float) → candidateOf advance n w ss es tol ≡ stopped c t → closed advance n w ss es tol true ≡ stopped c t
-  -- the run of an accepted candidate comes to the post row at the end, and that row holds the amounts it leaves
-  pub ends : (c : List Float) (y : Yields advance n w ss es tol c) (a : Accepts advance n w tol (y .folded) c)
-      → Reached n (divided n w) [] (y .folded) (a .left) × (lastPost [] (a .left .rows) ≡ a .left .amounts)
+-- ---- what is claimed of the closed cycle of a list, whose lent slices have room
+module _ (advance : Propagator) (n : ℕ) (w : Window) (ss : List Float) (es : List Event) (tol : SteadyStateTolerance) where
+  -- the answer, or the number and the time of a refusal
+  abbrev reply : Timed SteadyState
+  reply = closed advance n w ss es tol true
 
+  -- elimination yields the candidate c
+  abbrev Candidate : List Float → Type 0
+  Candidate c = Yields advance n w ss es tol c
+
+  -- the candidate c is accepted
+  abbrev Accepted : (c : List Float) → Candidate c → Type 0
+  Accepted c y = Accepts advance n w tol (y .folded) c
+
+  pub record ClosedCycle : Type 0 where
+    pub numbers : (c : ℕ) (t : Float) → reply ≡ stopped c t → T (oneOf c closedNumbers)
+    -- the candidate is what elimination yields
+    pub yields : (c : List Float) → (candidateOf advance n w ss es tol ≡ got c) ↔ Candidate c
+    -- where there is one, some answer is given exactly when the candidate is accepted
+    pub accepts : (c : List Float) (y : Candidate c) → ((s : SteadyState) × (reply ≡ got s)) ↔ Accepted c y
+    -- and the answer is the candidate, with the residuals of its own run
+    pub answer : (c : List Float) (y : Candidate c) (a : Accepted c y) (s : SteadyState) → reply ≡ got s
+        → CandidateAnswer n tol c (lastPost [] (a .left .rows)) s
+    -- and else the refusal is that of the first test that fails
+    pub rejects : (c : List Float) (y : Candidate c) (m : ℕ) (t : Float) → (reply ≡ stopped m t) ↔ Rejects advance n w tol (y .folded) c m t
+    -- no answer without a candidate
+    pub needs : (s : SteadyState) → reply ≡ got s → Candidate (s .amounts)
+    -- where there is none, the refusal ahead of it or 33 is the reply
+    pub refuses : (c : ℕ) (t : Float) → candidateOf advance n w ss es tol ≡ stopped c t → reply ≡ stopped c t
+    -- the run of an accepted candidate comes to the post row at the end, and that row holds the amounts it leaves
+    pub ends : (c : List Float) (y : Candidate c) (a : Accepted c y)
+        → Reached n (divided n w) [] (y .folded) (a .left) × (lastPost [] (a .left .rows) ≡ a .left .amounts)
+
+-- for every kernel with the laws of one, every window, samples, list and tolerance
 abbrev pub EveryClosedCycle : Type 1
 EveryClosedCycle =
-    (n : ℕ) (advance : Propagator) (Refuses : Conditions) → KernelLaws n advance Refuses
-    → (w : Window) (ss : List Float) (es : List Event) (tol : SteadyStateTolerance) → TimesFit w es → ClosedCycle advance n w ss es tol
+    (n : ℕ) (advance : Propagator) (Refuses : Conditions)
+    → KernelLaws n advance Refuses
+    → (w : Window) (ss : List Float) (es : List Event) (tol : SteadyStateTolerance)
+    → TimesFit w es
+    → ClosedCycle advance n w ss es tol

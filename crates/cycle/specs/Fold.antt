@@ -3,6 +3,7 @@
 -- 10, 11, 12. Definitions only.
 use Prim.Native.Nat.{ℕ}
 use mathlib.Core.Bool.{Bool, true, false, cond, _&&_}
+use mathlib.Core.Option.{Option, some, none}
 use mathlib.Core.List.{List, [], _∷_, _++_}
 use lib.Dec.{leb, eqb}
 use lib.ListN.{length}
@@ -10,12 +11,12 @@ use lib.Ieee.{Float, binary64, add, sub, mul, div, rem, lt, le}
 use lib.Ieee.Scale.{finite}
 use Rattle.binary64.specs.Doubles.{plusZero, one, nonnegative, positive, smaller, floorOf}
 use Rattle.binary64.specs.Lists.{any, all, pick}
-use Rattle.refusal.specs.Result.{Result, done, andThen, unless}
+use Rattle.refusal.specs.Result.{Result, refused, done, andThen, unless}
 use Rattle.protocol.specs.declared.Event.{Event}
 use Rattle.protocol.specs.declared.Event.the-variants.{Bolus, Infusion, Reset}
 use Rattle.protocol.specs.declared.Window.{Window}
 use Rattle.protocol.specs.Events.{time}
-use Rattle.protocol.specs.Prepare.{windowPasses, within, eventsPass}
+use Rattle.protocol.specs.Prepare.{validate}
 
 abbrev pub period : Window → Float
 period w = sub binary64 (w .end) (w .start)
@@ -111,16 +112,15 @@ unfolding withEvent
 withEvents w es [] so-far = done so-far
 withEvents w es (e ∷ rest) so-far = andThen (withEvent w es e so-far) (λ d. withEvents w es rest d)
 
--- `validate`: 10, 11, 12
-unfoldable pub validated : ℕ → Window → List Float → List Event → Result (List Event)
-validated n w ss es =
-    andThen (unless (windowPasses w) 10 es)
-    (λ es. andThen (unless (all (within w) ss) 11 es) (λ es. unless (eventsPass n w [] es) 12 es))
+-- a list that passes tests, or the number of the first that fails
+abbrev pub passing : {A : Type 0} → Option ℕ → A → Result A
+passing none a = done a
+passing (some c) a = refused c
 
 -- for n states
 unfoldable pub fold : ℕ → Window → List Float → List Event → Result (List Event)
-unfolding cyclePasses countPasses withEvents validated
+unfolding cyclePasses countPasses withEvents validate
 fold n w ss es =
     andThen (unless (cyclePasses w) 15 es)
     (λ es. andThen (unless (countPasses w es) 13 es)
-    (λ es. andThen (withEvents w es es []) (validated n w ss)))
+    (λ es. andThen (withEvents w es es []) (λ fs. passing (validate n w ss fs) fs)))

@@ -22,7 +22,7 @@ budgetNumber n w es = firstOf (unless (leb (length es) (w .events)) 13 ∷ unles
 
 pub record FoldLaws (n : ℕ) (w : Window) (ss : List Float) (es : List Event) : Type 0 where
   pub numbers : (c : ℕ) → fold n w ss es ≡ refused c → T (oneOf c (10 ∷ 11 ∷ 12 ∷ 13 ∷ 15 ∷ 16 ∷ 17 ∷ 18 ∷ []))
-  -- at most three pieces for an event: 192 for the 64 of a cycle
+  -- at most three pieces for an event, and so `mostEvents` for `mostCycleEvents`
   pub pieces : (fs : List Event) → fold n w ss es ≡ done fs → length fs ≤ 3 * length es
   -- with budgets divided by k + 2 it passes 10, 11 and 12 again
   pub passes : (fs : List Event) → fold n w ss es ≡ done fs → (k : ℕ) → prepare n (divided k w) [] fs ≡ budgetNumber n (divided k w) fs

@@ -36,7 +36,7 @@ fn apply_boluses(
         p = q;
         i += 1;
     }
-    doses_steps::resumed(p)
+    p.resumed()
 }
 
 // The events at the first m places of the list.
@@ -62,7 +62,7 @@ fn apply_listed(
         p = q;
         k += 1;
     }
-    doses_steps::resumed(p)
+    p.resumed()
 }
 
 // The resets at t by order.

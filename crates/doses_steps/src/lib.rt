@@ -3,7 +3,6 @@ use binary64::Test;
 use limits::STATES;
 use protocol::Event;
 use refusal::Refusal;
-use refusal::Reply;
 use rows::Progress;
 ghost use mathlib.Core.Path.{_≡_};
 ghost use Prim.Native.Nat.{_≤_};
@@ -15,7 +14,7 @@ ghost use Rattle.protocol.specs.Execute.{dosed as dosedOf, dosedAmounts};
 ghost use mathlib.Core.List.{[], _∷_, map};
 ghost use Rattle.protocol.specs.Events.{isBolus, boluses};
 ghost use Rattle.protocol.specs.Schedule.{check, apply};
-ghost use Rattle.doses_steps.specs.Takes.{checkedWith, goesOnWith, Takes};
+ghost use Rattle.doses_steps.specs.Takes.{checkedWith, Takes};
 
 // Whether each of the n amounts is finite and at least 0.
 pub fn check_state(n: usize, amounts: [f64; STATES]) -> bool
@@ -56,24 +55,11 @@ fn tested(n: usize, t: f64, start: Progress, amounts: [f64; STATES]) -> Progress
     requires { ⌜ n ≤ states ⌝ }
     ensures { λ r. ⌜ r ≡ checkedWith n t start amounts ⌝ }
 {
+    let p = start.with_amounts(amounts);
     if check_state(n, amounts) {
-        return Progress {
-            reply: Reply::Done,
-            time: 0.0,
-            amounts: amounts,
-            left: start.left,
-            made: start.made,
-            rows: start.rows,
-        };
+        return p;
     }
-    Progress {
-        reply: Reply::Refused(Refusal::State),
-        time: t,
-        amounts: amounts,
-        left: start.left,
-        made: start.made,
-        rows: start.rows,
-    }
+    p.stopped_by(Refusal::State, t)
 }
 
 // The state at t is checked.
@@ -105,21 +91,6 @@ fn is_bolus(t: f64, event: Event) -> bool
     }
 }
 
-// On from p.
-pub fn resumed(p: Progress) -> Progress
-    ensures { λ r. ⌜ r ≡ goesOnWith p (p .amounts) ⌝ }
-{
-    let amounts = p.amounts;
-    Progress {
-        reply: Reply::Done,
-        time: 0.0,
-        amounts: amounts,
-        left: p.left,
-        made: p.made,
-        rows: p.rows,
-    }
-}
-
 // The event, if it is a bolus at t.
 pub fn apply_bolus(event: Event, n: usize, t: f64, start: Progress) -> Progress
     requires { ⌜ n ≤ states ⌝ }
@@ -128,5 +99,5 @@ pub fn apply_bolus(event: Event, n: usize, t: f64, start: Progress) -> Progress
     if is_bolus(t, event) {
         return apply_one(event, n, t, start);
     }
-    resumed(start)
+    start.resumed()
 }

@@ -46,7 +46,7 @@ packedWords (Reset t i v o c) = 2 ∷ i ∷ o ∷ bit c ∷ []
 unfoldable pub packed : List (List Float) → List (List ℕ) → ℕ → List Event
 packed rs ws n = tabulate n (eventAt rs ws)
 
--- arrays of 192 places, the first n of which hold es
+-- arrays of `mostEvents` places, the first n of which hold es
 pub record Packs (rs : List (List Float)) (ws : List (List ℕ)) (n : ℕ) (es : List Event) : Type 0 where
   pub reals : length rs ≡ mostEvents
   pub words : length ws ≡ mostEvents

@@ -1,4 +1,4 @@
-// Events written as 64-bit words, six to an event: the layout that `layout` reads. Words that a kind lacks are 0.
+// Events written as 64-bit words, six to an event: the layout that `events_layout` reads. Words that a kind lacks are 0.
 use limits::EVENT_SIZE;
 use protocol::Event;
 ghost use mathlib.Core.Path.{_≡_};

@@ -1,4 +1,4 @@
--- The infusion of a list: refused, or infusionPieces up to its stop.
+-- The infusion of a list: refused, or an infusion up to its stop.
 use mathlib.Core.Path.{_≡_}
 use mathlib.Core.Bool.{Bool, true, false}
 use mathlib.Core.List.{List}

@@ -11,7 +11,7 @@ use Rattle.protocol.specs.declared.Event.{Event}
 use Rattle.events.specs.Packed.{packed}
 use Rattle.fold_stop.specs.declared.Folding.{Folding}
 
--- arrays of 192 places, and a reply: the list in their first places, at most `most`, or a refusal
+-- arrays of `mostEvents` places, and a reply: the list in their first places, at most `most`, or a refusal
 pub record Folds (most : ℕ) (rs : List (List Float)) (ws : List (List ℕ)) (r : Folding) (o : Result (List Event)) : Type 0 where
   pub reals : length rs ≡ mostEvents
   pub words : length ws ≡ mostEvents

@@ -2,6 +2,7 @@
 use mathlib.Core.Path.{_≡_, refl, ap, sym, _∙_}
 use mathlib.Core.Bool.{Bool, true, false}
 use mathlib.Core.List.{List, [], _∷_}
+use mathlib.Core.Option.{Option, some, none}
 use Prim.Native.Nat.{ℕ, suc, _+_, _*_, _≤_, _<_}
 use native.Mathlib.Omega.{arith}
 use borrow.Author.Tests.{lt-leb, le-leb}
@@ -14,18 +15,18 @@ use Rattle.refusal.specs.Numbers.{refusalNumber, replyNumber, resultOf}
 use Rattle.refusal.specs.declared.Refusal.{Refusal}
 use Rattle.refusal.specs.declared.Reply.{Reply}
 use Rattle.refusal.specs.declared.Reply.the-variants.{Done, Refused}
-use Rattle.protocol.specs.First as F
-use Rattle.protocol.specs.Prepare.{windowPasses, within, eventsPass}
+use Rattle.protocol.specs.Prepare.{validate}
 use Rattle.protocol.specs.declared.Event.{Event}
 use Rattle.protocol.specs.declared.Window.{Window}
 use Rattle.matrix.specs.Matrix.{tabulate, tabulateFrom}
-use Rattle.preparation.specs.Preparation.{validateOf, optionNumber}
+use Rattle.preparation.specs.Preparation.{optionNumber}
+use Rattle.preparation.proofs.Tests.{validate-passes}
 use Rattle.refusal.proofs.Numbers.{refusal-number}
 use Rattle.events.specs.Packed.{eventAt, packed}
 use Rattle.events.proofs.Packing.{packed-length}
 use Rattle.events.proofs.Scans.{left, left-start, left-more, left-none}
 use Rattle.fold_stop.specs.declared.Folding.{Folding}
-use Rattle.cycle.specs.Fold.{cyclePasses, countPasses, withEvent, withEvents, validated, fold}
+use Rattle.cycle.specs.Fold.{cyclePasses, countPasses, withEvent, withEvents, passing, fold}
 use Rattle.fold_event.specs.Folds.{Folds}
 use Rattle.fold_event.proofs.Events.{folds-refused, folds-done}
 
@@ -63,51 +64,19 @@ module _ (w : Window) (rs : List (List Float)) (ws : List (List ℕ)) (count : �
     unfolding withEvents
     going-done l = rw (left-none (eventAt rs ws) count i l) at (g .rest)
 
--- ---- 10, 11, 12
-module _ (n : ℕ) (w : Window) (ss : List Float) (es : List Event) where
-  abbrev numbered : Bool → Bool → Bool → ℕ
-  numbered a b c = optionNumber (F.firstOf (F.unless a 10 ∷ F.unless b 11 ∷ F.unless c 12 ∷ []))
+-- ---- tests in order
+-- the number of a refusal
+passing-refused : {A : Type 0} (x : Refusal) (o : Option ℕ) (a : A) → refusalNumber x ≡ optionNumber o → refused (refusalNumber x) ≡ passing o a
+passing-refused x none a e = absurd (never (refusal-number x) e)
+  where
+    never : {k : ℕ} → 1 ≤ k → k ≡ 0 → ⊥
+    never h e = omega arith
+passing-refused x (some c) a e = ap refused e
 
-  abbrev tested : Bool → Bool → Result (List Event)
-  tested a b = andThen (unless a 10 es) (λ es. andThen (unless b 11 es) (λ es. unless (eventsPass n w [] es) 12 es))
-
-  pub validated-refused : (x : Refusal) → refusalNumber x ≡ optionNumber (validateOf n w ss es) → refused (refusalNumber x) ≡ validated n w ss es
-  unfolding validateOf validated
-  validated-refused x = on (windowPasses w) (all (within w) ss) (refusal-number x)
-    where
-      no : {A : Type 0} {k : ℕ} → 1 ≤ k → k ≡ 0 → A
-      no h e = absurd (never h e)
-        where
-          never : {k : ℕ} → 1 ≤ k → k ≡ 0 → ⊥
-          never h e = omega arith
-
-      last : (c : Bool) {k : ℕ} → 1 ≤ k → k ≡ numbered true true c → refused k ≡ unless c 12 es
-      last true h e = no h e
-      last false h e = ap refused e
-
-      on : (a b : Bool) {k : ℕ} → 1 ≤ k → k ≡ numbered a b (eventsPass n w [] es) → refused k ≡ tested a b
-      on true true h e = last (eventsPass n w [] es) h e
-      on true false h e = ap refused e
-      on false b h e = ap refused e
-
-  pub validated-done : 0 ≡ optionNumber (validateOf n w ss es) → done es ≡ validated n w ss es
-  unfolding validateOf validated
-  validated-done = on (windowPasses w) (all (within w) ss)
-    where
-      no : {A : Type 0} {k : ℕ} → 0 ≡ suc k → A
-      no e = absurd (never e)
-        where
-          never : {k : ℕ} → 0 ≡ suc k → ⊥
-          never e = omega arith
-
-      last : (c : Bool) → 0 ≡ numbered true true c → done es ≡ unless c 12 es
-      last true e = refl
-      last false e = no {k = 11} e
-
-      on : (a b : Bool) → 0 ≡ numbered a b (eventsPass n w [] es) → done es ≡ tested a b
-      on true true e = last (eventsPass n w [] es) e
-      on true false e = no {k = 10} e
-      on false b e = no {k = 9} e
+-- none where the first does not fail: a number is above 0
+passing-done : {A : Type 0} (n : ℕ) (w : Window) (ss : List Float) (es : List Event) (a : A) → 0 ≡ optionNumber (validate n w ss es)
+    → done a ≡ passing (validate n w ss es) a
+passing-done n w ss es a e = rw (validate-passes n w ss es e) refl
 
 -- ---- the whole fold
 module _ (n : ℕ) (w : Window) (ss : List Float) (rs : List (List Float)) (ws : List (List ℕ)) (count : ℕ) {b : Bool} (p : b ≡ cyclePasses w) where
@@ -121,7 +90,7 @@ module _ (n : ℕ) (w : Window) (ss : List Float) (rs : List (List Float)) (ws :
     count-refused l = rw (← p, h, packed-length rs ws count, lt-leb _ _ l)
 
     module _ (l : count ≤ w .events) where
-      fold-on : fold n w ss (packed rs ws count) ≡ andThen (whole w rs ws count) (validated n w ss)
+      fold-on : fold n w ss (packed rs ws count) ≡ andThen (whole w rs ws count) (λ fs. passing (validate n w ss fs) fs)
       unfolding fold countPasses
       fold-on = rw (← p, h, packed-length rs ws count, le-leb _ _ l)
 
@@ -129,15 +98,17 @@ module _ (n : ℕ) (w : Window) (ss : List Float) (rs : List (List Float)) (ws :
         pub events-refused : (x : Refusal) → r .reply ≡ Refused x → refused (refusalNumber x) ≡ fold n w ss (packed rs ws count)
         events-refused x q = sym (fold-on ∙ rw (← f .held, q))
 
-        fold-listed : r .reply ≡ Done → fold n w ss (packed rs ws count) ≡ validated n w ss (packed os us (r .count))
+        fold-listed : r .reply ≡ Done → fold n w ss (packed rs ws count)
+            ≡ passing (validate n w ss (packed os us (r .count))) (packed os us (r .count))
         fold-listed q = fold-on ∙ rw (← f .held, q)
 
-        module _ (d : r .reply ≡ Done) {v : Reply} (g : replyNumber v ≡ optionNumber (validateOf n w ss (packed os us (r .count)))) where
+        module _ (d : r .reply ≡ Done) {v : Reply} (g : replyNumber v ≡ optionNumber (validate n w ss (packed os us (r .count)))) where
           pub list-refused : (x : Refusal) → v ≡ Refused x → refused (refusalNumber x) ≡ fold n w ss (packed rs ws count)
-          list-refused x q = validated-refused n w ss (packed os us (r .count)) x (rw q at g) ∙ sym (fold-listed d)
+          list-refused x q =
+              passing-refused x (validate n w ss (packed os us (r .count))) (packed os us (r .count)) (rw q at g) ∙ sym (fold-listed d)
 
           pub list-folds : v ≡ Done → done (packed os us (r .count)) ≡ fold n w ss (packed rs ws count)
-          list-folds q = validated-done n w ss (packed os us (r .count)) (rw q at g) ∙ sym (fold-listed d)
+          list-folds q = passing-done n w ss (packed os us (r .count)) (packed os us (r .count)) (rw q at g) ∙ sym (fold-listed d)
 
 -- ---- the three promises of an answer
 pub promised : {rs : List (List Float)} {ws : List (List ℕ)} {r : Folding} {o : Result (List Event)} → Folds mostEvents rs ws r o

@@ -1,4 +1,4 @@
--- What is answered: a packed list in an array of 192 places, with its filling.
+-- What is answered: a packed list in an array of places, with its filling.
 use mathlib.Core.Path.{_≡_, refl, ap, sym, _∙_}
 use mathlib.Core.List.{List, [], _∷_, map}
 use Prim.Native.Nat.{ℕ, zero, suc, _<_, _≤_}

@@ -11,7 +11,7 @@ use Rattle.protocol.specs.declared.Event.{Event}
 use Rattle.fold_list.specs.declared.FoldedCycle.{FoldedCycle}
 use Rattle.fold_list.specs.declared.Place.{Place}
 
--- the list in the first of 192 places, and behind it what stands past its end
+-- the list in the first of `mostEvents` places, and behind it what stands past its end
 unfoldable pub filled : List Event → List Place
 filled es = tabulate mostEvents (λ i. record { event = getD es i noEvent })
 

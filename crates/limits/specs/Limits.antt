@@ -49,6 +49,10 @@ mostEvents = 3 * mostCycleEvents
 abbrev pub mostBoundaries : ℕ
 mostBoundaries = 2 * mostEvents + 2
 
+-- the most reckoned rows of a run
+abbrev pub mostRows : ℕ
+mostRows = 4 * mostEvents + mostSamples + 2
+
 -- the most reckoned rows and values of a sheet's run, and of a run inside a closed cycle, which has no samples
 abbrev pub sheetRows : ℕ
 sheetRows = 4 * mostCycleEvents + mostSamples + 2

@@ -1,5 +1,5 @@
--- 01, "Amounts and concentrations": the mammillary model (one to three compartments, an optional depot). Its rates are in `mammillary/specs/Rates.antt`,
--- their solution over an interval in `interval/specs/Interval.antt`, amounts by volume in `concentration/specs/Concentrations.antt`.
+-- 01, "Amounts and concentrations": the mammillary model (one to three compartments, an optional depot). Its rates are in `linear_pk_mammillary/specs/Rates.antt`,
+-- their solution over an interval in `linear_pk_interval/specs/Interval.antt`, amounts by volume in `linear_pk_values/specs/Concentrations.antt`.
 use mathlib.Core.Bool.{Bool, false, _&&_, cond}
 use mathlib.Core.List.{List}
 use Prim.Native.Nat.{ℕ, _+_, _-_, _*_}

@@ -32,7 +32,7 @@ impl LinearPk {
         if count == 0 {
             return 0;
         }
-        if count > 3 {
+        if count > VOLUMES {
             return 0;
         }
         if self.depot { count + 1 } else { count }
@@ -143,7 +143,7 @@ impl LinearPk {
         if count == 0 {
             return not_made(Refusal::Parameters);
         }
-        if count > 3 {
+        if count > VOLUMES {
             return not_made(Refusal::Parameters);
         }
         if exchange.len() != count - 1 {

@@ -16,7 +16,7 @@ use Rattle.linear_pk_interval.specs.Interval.{propagator, amountTo, prop
 use Rattle.matrix.proofs.Filled.{tabulate-cong}
 use Rattle.matrix.proofs.Rows.{sum-cong, lead-at}
 
--- ---- the propagator propagated
+-- ---- the propagator applied
 pub applied-at :
     (n : ℕ) (p : Matrix) (x r : List Float) (d : Float) {b c : Bool} {y : List Float}
     → b ≡ allTo (λ j. finite (mul binary64 (cell r j) d)) n → y ≡ tabulate n (λ i. amountTo p n x r d i n) → c ≡ all nonnegative y

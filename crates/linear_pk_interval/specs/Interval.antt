@@ -1,5 +1,5 @@
 -- 01, "Amounts and concentrations": the solution of dA/dt = K·A + R over an interval with constant input rates R, for a matrix of rates K.
--- The exponential of a duration is in `propagator/specs/Propagator.antt`, an amount after it in `interval_amounts/specs/Amounts.antt`.
+-- The exponential of a duration is in `linear_pk_propagator/specs/Propagator.antt`, an amount after it in `linear_pk_propagator/specs/Amounts.antt`.
 use mathlib.Core.Bool.{Bool, true, false}
 use mathlib.Core.List.{List}
 use Prim.Native.Nat.{ℕ}

@@ -22,7 +22,7 @@ ghost use Rattle.events.specs.Packed.{packed};
 ghost use Rattle.simulation.specs.KernelRun.{propagatorOf};
 ghost use Rattle.cycle.specs.Closed.{closed as closedOf, steadyReportOf, answerAtExit};
 ghost use Rattle.periodic_acceptance.specs.Entry.{steadyRoom, steadyEntry, steadyReply};
-ghost use Rattle.periodic_acceptance.specs.Replies.{Answers};
+ghost use Rattle.periodic_acceptance.specs.Replies.{SteadyAnswer};
 
 // The closed cycle of the packed list, folded into cells of its own.
 fn closed(
@@ -38,9 +38,9 @@ fn closed(
     residual: &mut [f64],
 ) -> SteadyReply
     requires { ⌜ (n ≡ stateCount kernel) × (n ≤ states) × (count ≤ mostCycleEvents) ⌝ }
-    ensures { λ r. ⌜ Answers (closedOf (propagatorOf kernel) n window (now (samples .entry)) (packed (now (reals .entry)) (now (words .entry)) count) tolerance
+    ensures { λ r. ⌜ SteadyAnswer (closedOf (propagatorOf kernel) n window (now (samples .entry)) (packed (now (reals .entry)) (now (words .entry)) count) tolerance
         (leb n (length (now (amounts .entry))) && leb n (length (now (residual .entry)))))
-        r (now (amounts .entry)) (now (residual .entry)) (now (amounts .exit)) (now (residual .exit)) ⌝ }
+        (steadyReply r) (now (amounts .entry)) (now (residual .entry)) (now (amounts .exit)) (now (residual .exit)) ⌝ }
 {
     let mut folded_reals = periodic_inputs::real_cells();
     let mut folded_words = periodic_inputs::word_cells();

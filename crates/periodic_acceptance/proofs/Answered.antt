@@ -19,7 +19,7 @@ use Rattle.protocol.specs.declared.Window.{Window}
 use Rattle.simulation.specs.KernelRun.{propagatorOf}
 use Rattle.cycle.specs.declared.SteadyStateTolerance.{SteadyStateTolerance}
 use Rattle.cycle.specs.Closed.{Timed, stopped, got, then, unlessFails, ready, homogeneous, zeroed, solution, SteadyState, accepted, closed}
-use Rattle.cycle.specs.Closed.{steadyReportOf, answerAtExit}
+use Rattle.cycle.specs.Closed.{SteadyReport, steadyReportOf, answerAtExit}
 use Rattle.cycle.specs.ClosedCycle.{closedNumbers}
 use Rattle.cycle.proofs.Folds.{zeroed-passes}
 use Rattle.cycle.proofs.InnerRuns.{Ready, ready-hands}
@@ -28,11 +28,11 @@ use Rattle.periodic_runs.specs.Ends.{Runs}
 use Rattle.periodic_acceptance.specs.declared.SteadyReply.{SteadyReply}
 use Rattle.periodic_acceptance.specs.declared.SteadyReply.the-variants as P
 use Rattle.periodic_acceptance.specs.Entry.{steadyEntry, steadyReply}
-use Rattle.periodic_acceptance.specs.Replies.{Answers}
+use Rattle.periodic_acceptance.specs.Replies.{SteadyAnswer}
 
 -- ---- a refusal leaves the slices as they were; an answer stands at their front
 pub refuses : {o : Timed SteadyState} {r : SteadyReply} {x : Refusal} {t : Float} (a e : List Float) → r ≡ P.Refused x t
-    → stopped (refusalNumber x) t ≡ o → Answers o r a e a e
+    → stopped (refusalNumber x) t ≡ o → SteadyAnswer o (steadyReply r) a e a e
 refuses a e q p = record {
   reply = ap steadyReply q ∙ ap steadyReportOf p;
   amounts = ap (λ (x : Timed SteadyState). answerAtExit (λ s. s .amounts) x a) p;
@@ -41,15 +41,16 @@ refuses a e q p = record {
 
 pub solves : {o : Timed SteadyState} (s : SteadyState) (a e : List Float) {a' e' : List Float} → got s ≡ o
     → a' ≡ s .amounts ++ drop (length (s .amounts)) a → e' ≡ s .residuals ++ drop (length (s .residuals)) e
-    → Answers o (P.Solved (s .maximum)) a e a' e'
+    → SteadyAnswer o (steadyReply (P.Solved (s .maximum))) a e a' e'
 solves s a e p q r = record {
   reply = ap steadyReportOf p;
   amounts = q ∙ ap (λ (x : Timed SteadyState). answerAtExit (λ s. s .amounts) x a) p;
   residuals = r ∙ ap (λ (x : Timed SteadyState). answerAtExit (λ s. s .residuals) x e) p;
 }
 
-pub answers-as : {o o' : Timed SteadyState} {r : SteadyReply} {a e a' e' : List Float} → o ≡ o' → Answers o r a e a' e' → Answers o' r a e a' e'
-answers-as {o} {o'} {r} {a} {e} {a'} {e'} p h = subst (λ (x : Timed SteadyState). Answers x r a e a' e') p h
+pub answers-as : {o o' : Timed SteadyState} {r : SteadyReport} {a e a' e' : List Float} → o ≡ o' → SteadyAnswer o r a e a' e'
+    → SteadyAnswer o' r a e a' e'
+answers-as {o} {o'} {r} {a} {e} {a'} {e'} p h = subst (λ (x : Timed SteadyState). SteadyAnswer x r a e a' e') p h
 
 -- ---- what the runs ask, of the folded list and of the zeroed one
 module _ (k : LinearPk) (n : ℕ) (w : Window) (ss : List Float) (es : List Event) (tol : SteadyStateTolerance) (c : n ≡ stateCount k)

@@ -57,7 +57,7 @@ module _ (k : LinearPk) (w : Window) (es : List Event) (count : ℕ) (a : List F
   abbrev rows : List Row
   rows = h .left .rows
 
-  -- no test firstRefusal refuses
+  -- no test ahead refuses
   none-ahead : (times sides values : ℕ) → cycleRows ≤ times → cycleRows ≤ sides → cycleValues ≤ values
       → firstRefusal (ownNumber (sound k)) n (divided n w) [] fs a (room times sides values) ≡ none
   unfolding firstRefusal

@@ -16,7 +16,8 @@ ghost use Rattle.events.specs.Packed.{packed};
 ghost use Rattle.simulation.specs.KernelRun.{propagatorOf};
 ghost use Rattle.cycle.specs.Closed.{then, unlessFails, homogeneous, solution, accepted};
 ghost use Rattle.periodic_runs.specs.Ends.{Runs};
-ghost use Rattle.periodic_acceptance.specs.Replies.{Answers};
+ghost use Rattle.periodic_acceptance.specs.Entry.{steadyReply};
+ghost use Rattle.periodic_acceptance.specs.Replies.{SteadyAnswer};
 
 // The closed cycle of a list that was folded and prepared: 4, the candidate, its acceptance. Nothing is written ahead of the last refusal.
 pub fn execute_prepared_periodic_steady_state(
@@ -32,10 +33,10 @@ pub fn execute_prepared_periodic_steady_state(
 ) -> SteadyReply
     requires { ⌜ Runs kernel n window (packed (now reals) (now words) count)
         × Runs kernel n window (homogeneous (packed (now reals) (now words) count)) × (count ≤ mostEvents) ⌝ }
-    ensures { λ r. ⌜ Answers (then (unlessFails (leb n (length (now (amounts .entry))) && leb n (length (now (residual .entry)))) 4
+    ensures { λ r. ⌜ SteadyAnswer (then (unlessFails (leb n (length (now (amounts .entry))) && leb n (length (now (residual .entry)))) 4
         (packed (now (reals .entry)) (now (words .entry)) count))
         (λ fs. then (solution (propagatorOf kernel) n window fs) (accepted (propagatorOf kernel) n window tolerance fs)))
-        r (now (amounts .entry)) (now (residual .entry)) (now (amounts .exit)) (now (residual .exit)) ⌝ }
+        (steadyReply r) (now (amounts .entry)) (now (residual .entry)) (now (amounts .exit)) (now (residual .exit)) ⌝ }
 {
     if amounts.len() < n {
         return periodic_acceptance::refused(Refusal::ShortSlice);

@@ -12,13 +12,13 @@ use lib.Ieee.{Float}
 use Rattle.limits.specs.Limits.{mostEvents, mostSamples}
 use Rattle.protocol.specs.First.{unless, firstOf}
 use Rattle.binary64.specs.Lists.{all}
-use Rattle.protocol.specs.Prepare.{windowPasses, within, eventsPass, reckoned, prepare}
+use Rattle.protocol.specs.Prepare.{validate, windowPasses, within, eventsPass, reckoned, prepare}
 use Rattle.protocol.specs.declared.Window.{Window}
 use Rattle.protocol.specs.declared.Event.{Event}
 use Rattle.refusal.specs.Result.{done}
 use Rattle.linear_pk.specs.LinearPk.{sound, stateCount}
 use Rattle.linear_pk.specs.declared.kernel.LinearPk.{LinearPk}
-use Rattle.preparation.specs.Preparation.{validateOf, prepareEntry, optionNumber}
+use Rattle.preparation.specs.Preparation.{prepareEntry, optionNumber}
 use Rattle.events.specs.Packed.{packed}
 use Rattle.events.proofs.Packing.{packed-length}
 
@@ -26,18 +26,9 @@ use Rattle.events.proofs.Packing.{packed-length}
 prepare-by :
     (n : ℕ) (w : Window) (ss : List Float) (rs : List (List Float)) (ws : List (List ℕ)) (count : ℕ) {b f : Bool}
     → b ≡ leb count (w .events) → f ≡ leb ((4 * count + length ss + 2) * n) (w .outputs)
-    → prepare n w ss (packed rs ws count) ≡ firstOf (unless b 13 ∷ validateOf n w ss (packed rs ws count) ∷ unless f 14 ∷ [])
-unfolding prepare validateOf
-prepare-by n w ss rs ws count {b} {f} p t =
-    rw (packed-length rs ws count, ← p, ← t) (on b (windowPasses w) (all (within w) ss) (eventsPass n w [] (packed rs ws count)) f)
-  where
-    on : (a b c d e : Bool) → firstOf (unless a 13 ∷ unless b 10 ∷ unless c 11 ∷ unless d 12 ∷ unless e 14 ∷ [])
-        ≡ firstOf (unless a 13 ∷ firstOf (unless b 10 ∷ unless c 11 ∷ unless d 12 ∷ []) ∷ unless e 14 ∷ [])
-    on true true true true e = refl
-    on true true true false e = refl
-    on true true false d e = refl
-    on true false c d e = refl
-    on false b c d e = refl
+    → prepare n w ss (packed rs ws count) ≡ firstOf (unless b 13 ∷ validate n w ss (packed rs ws count) ∷ unless f 14 ∷ [])
+unfolding prepare
+prepare-by n w ss rs ws count {b} {f} p t = rw (packed-length rs ws count, ← p, ← t)
 
 first-one : (o : Option ℕ) → firstOf (o ∷ []) ≡ o
 first-one none = refl
@@ -65,8 +56,8 @@ no-number e = absurd (never e)
     never : {c : ℕ} → 0 ≡ suc c → ⊥
     never e = omega arith
 
-pub validate-passes : (n : ℕ) (w : Window) (ss : List Float) (es : List Event) → 0 ≡ optionNumber (validateOf n w ss es) → validateOf n w ss es ≡ none
-unfolding validateOf
+pub validate-passes : (n : ℕ) (w : Window) (ss : List Float) (es : List Event) → 0 ≡ optionNumber (validate n w ss es) → validate n w ss es ≡ none
+unfolding validate
 validate-passes n w ss es = on (windowPasses w) (all (within w) ss) (eventsPass n w [] es)
   where
     on : (b c d : Bool) → 0 ≡ optionNumber (firstOf (unless b 10 ∷ unless c 11 ∷ unless d 12 ∷ []))
@@ -82,12 +73,12 @@ module _ (n : ℕ) (w : Window) (ss : List Float) (rs : List (List Float)) (ws :
   budget-fails h = rw (prepare-by n w ss rs ws count refl refl, lt-leb _ _ h)
 
   module _ (h : count ≤ w .events) where
-    pub validate-fails : {c : ℕ} → 1 ≤ c → c ≡ optionNumber (validateOf n w ss (packed rs ws count)) → c ≡ optionNumber (prepare n w ss (packed rs ws count))
+    pub validate-fails : {c : ℕ} → 1 ≤ c → c ≡ optionNumber (validate n w ss (packed rs ws count)) → c ≡ optionNumber (prepare n w ss (packed rs ws count))
     validate-fails l e =
-        rw (prepare-by n w ss rs ws count refl refl, le-leb _ _ h) (first-refused (validateOf n w ss (packed rs ws count))
+        rw (prepare-by n w ss rs ws count refl refl, le-leb _ _ h) (first-refused (validate n w ss (packed rs ws count))
         (unless (leb ((4 * count + length ss + 2) * n) (w .outputs)) 14 ∷ []) l e)
 
-    module _ (e : 0 ≡ optionNumber (validateOf n w ss (packed rs ws count))) where
+    module _ (e : 0 ≡ optionNumber (validate n w ss (packed rs ws count))) where
       pub rows-fail : w .outputs < (4 * count + length ss + 2) * n → 14 ≡ optionNumber (prepare n w ss (packed rs ws count))
       rows-fail g = rw (prepare-by n w ss rs ws count refl refl, le-leb _ _ h, validate-passes n w ss (packed rs ws count) e, lt-leb _ _ g)
 
@@ -95,11 +86,11 @@ module _ (n : ℕ) (w : Window) (ss : List Float) (rs : List (List Float)) (ws :
       prepares g = rw (prepare-by n w ss rs ws count refl refl, le-leb _ _ h, validate-passes n w ss (packed rs ws count) e, le-leb _ _ g)
 
 pub prepare-passes : (n : ℕ) (w : Window) (ss : List Float) (es : List Event) → 0 ≡ optionNumber (prepare n w ss es) → prepare n w ss es ≡ none
-unfolding prepare
+unfolding prepare validate
 prepare-passes n w ss es = on (leb (length es) (w .events)) (windowPasses w) (all (within w) ss) (eventsPass n w [] es) (leb (reckoned ss es * n) (w .outputs))
   where
-    on : (a b c d e : Bool) → 0 ≡ optionNumber (firstOf (unless a 13 ∷ unless b 10 ∷ unless c 11 ∷ unless d 12 ∷ unless e 14 ∷ []))
-        → firstOf (unless a 13 ∷ unless b 10 ∷ unless c 11 ∷ unless d 12 ∷ unless e 14 ∷ []) ≡ none
+    on : (a b c d e : Bool) → 0 ≡ optionNumber (firstOf (unless a 13 ∷ firstOf (unless b 10 ∷ unless c 11 ∷ unless d 12 ∷ []) ∷ unless e 14 ∷ []))
+        → firstOf (unless a 13 ∷ firstOf (unless b 10 ∷ unless c 11 ∷ unless d 12 ∷ []) ∷ unless e 14 ∷ []) ≡ none
     on true true true true true h = refl
     on true true true true false h = no-number {c = 13} h
     on true true true false e h = no-number {c = 11} h

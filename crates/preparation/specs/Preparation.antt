@@ -15,7 +15,6 @@ use Rattle.protocol.specs.Prepare.{prepare}
 use Rattle.protocol.specs.declared.Event.{Event}
 use Rattle.protocol.specs.declared.Window.{Window}
 pub use Rattle.preparation_validation.specs.Validation.{optionNumber}
-unfoldable pub use Rattle.preparation_validation.specs.Validation.{validateOf}
 
 -- the kernel's own number
 abbrev pub ownNumber : Result LinearPk → Option ℕ

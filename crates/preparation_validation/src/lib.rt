@@ -10,11 +10,11 @@ ghost use Prim.Native.Nat.{_≤_, _<_};
 ghost use mathlib.Core.List.{[]};
 ghost use Rattle.limits.specs.Limits.{mostEvents};
 ghost use Rattle.binary64.specs.Lists.{any, all};
-ghost use Rattle.protocol.specs.Prepare.{within as withinOf, eventValuesPass, eventPasses, eventsPass, windowPasses};
+ghost use Rattle.protocol.specs.Prepare.{validate as validateOf, within as withinOf, eventValuesPass, eventPasses, eventsPass, windowPasses};
 ghost use Rattle.events.specs.Packed.{eventAt, packed};
 ghost use Rattle.preparation_validation.specs.Seen.{seen, repeated};
 ghost use Rattle.refusal.specs.Numbers.{replyNumber};
-ghost use Rattle.preparation_validation.specs.Validation.{optionNumber, validateOf};
+ghost use Rattle.preparation_validation.specs.Validation.{optionNumber};
 
 // Finite and in the window, ends included.
 pub fn within(window: Window, time: f64) -> bool

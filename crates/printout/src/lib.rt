@@ -9,6 +9,7 @@ use refusal::Reply;
 ghost use mathlib.Core.Path.{_≡_};
 ghost use Prim.Native.Nat.{_*_, _≤_};
 ghost use lib.ListN.{length};
+ghost use Rattle.limits.specs.Limits.{states, mostRows};
 ghost use Rattle.printout.specs.Printout.{rowsText, runText};
 ghost use Rattle.printout.specs.Cells.{Wrote, printed, printedLength};
 ghost use lib.Dec.{eqb};
@@ -48,7 +49,7 @@ pub fn print_run(
     values: &[f64],
     out: &mut [u8],
 ) -> usize
-    requires { ⌜ (rows ≤ length (now times)) × (rows ≤ length (now sides)) × (rows * n ≤ length (now values)) × (n ≤ 4) × (rows ≤ 1026) ⌝ }
+    requires { ⌜ (rows ≤ length (now times)) × (rows ≤ length (now sides)) × (rows * n ≤ length (now values)) × (n ≤ states) × (rows ≤ mostRows) ⌝ }
     ensures { λ r. ⌜ r ≡ printedLength (runText number time rows n ordered (now (times .entry)) (now (sides .entry)) (now (values .entry)))
         (now (out .entry)) ⌝ }
     ensures { λ r. ⌜ now (out .exit) ≡ printed (runText number time rows n ordered (now (times .entry)) (now (sides .entry))

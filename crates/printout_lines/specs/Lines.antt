@@ -1,5 +1,5 @@
 -- The first line, the last line and the refusal of a printout: 01, "The sheet and its printout". A text is the list of its bytes; numbers
--- are in `number_text/specs/Digits.antt`. Definitions only.
+-- are in `printout_numbers/specs/Digits.antt`. Definitions only.
 use Prim.Native.Nat.{ℕ}
 use mathlib.Core.List.{List, [], _∷_, _++_}
 use lib.Ieee.{Float}

@@ -5,7 +5,7 @@ use printout_numbers::put_decimal;
 use printout_numbers::put_text;
 ghost use Prim.Native.Nat.{_+_, _≤_};
 ghost use lib.ListN.{length};
-ghost use Rattle.limits.specs.Limits.{states};
+ghost use Rattle.limits.specs.Limits.{states, mostRows};
 ghost use Rattle.printout_numbers.specs.Written.{Wrote};
 ghost use Rattle.printout_lines.specs.Lines.{headLine, orderedLine, refusedText};
 ghost use mathlib.Core.Path.{_≡_};
@@ -53,7 +53,7 @@ fn side_length(side: u8) -> usize
 
 // How many bytes the lines of the first rows have.
 fn rows_length(rows: usize, n: usize, sides: &[u8]) -> usize
-    requires { ⌜ (rows ≤ length (now sides)) × (n ≤ states) × (rows ≤ 1026) ⌝ }
+    requires { ⌜ (rows ≤ length (now sides)) × (n ≤ states) × (rows ≤ mostRows) ⌝ }
     ensures { λ r. ⌜ r ≡ rowsLength n rows (now (sides .entry)) ⌝ }
 {
     let mut sum = 0usize;
@@ -67,7 +67,7 @@ fn rows_length(rows: usize, n: usize, sides: &[u8]) -> usize
 
 // How many bytes the text has.
 pub fn run_length(number: u64, rows: usize, n: usize, sides: &[u8]) -> usize
-    requires { ⌜ (rows ≤ length (now sides)) × (n ≤ states) × (rows ≤ 1026) ⌝ }
+    requires { ⌜ (rows ≤ length (now sides)) × (n ≤ states) × (rows ≤ mostRows) ⌝ }
     ensures { λ r. ⌜ r ≡ textLength number rows n (now (sides .entry)) ⌝ }
 {
     if number == 0 {

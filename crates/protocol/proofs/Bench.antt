@@ -23,7 +23,7 @@ use Rattle.protocol.specs.Prepare.{prepare}
 use Rattle.protocol.specs.Schedule.{flows, infusionRate, summed}
 use Rattle.protocol.specs.Execute.{Propagator, Row, Side, Pre, Post, Reading, Outcome, go, stop, dosed, runOf}
 use Rattle.protocol.specs.Entry.{Room, RunReport, simulate, reportOf, timesAtExit, sidesAtExit, valuesAtExit}
-use Rattle.protocol.specs.PlainRun.{oneOf, argumentsPass, Conditions, KernelLaws, Prepared, PlainRun}
+use Rattle.protocol.specs.PlainRun.{advanceNumbers, oneOf, argumentsPass, Conditions, KernelLaws, Prepared, PlainRun}
 use Rattle.protocol.proofs.ListLaws.{both}
 use Rattle.protocol.proofs.Theorems.{plain-run}
 
@@ -252,12 +252,12 @@ keeper-laws n =
         on true q = absurd q
         on false q = refl
 
-    numbers : (a r : List Float) (d : Float) (c : ℕ) → keeper n a r d ≡ refused c → T (oneOf c (3 ∷ 20 ∷ 21 ∷ 22 ∷ []))
+    numbers : (a r : List Float) (d : Float) (c : ℕ) → keeper n a r d ≡ refused c → T (oneOf c (3 ∷ advanceNumbers))
     numbers a r d c e = on (argumentsPass n a r d) e
       where
-        on : (b : Bool) → guarded b a ≡ refused c → T (oneOf c (3 ∷ 20 ∷ 21 ∷ 22 ∷ []))
+        on : (b : Bool) → guarded b a ≡ refused c → T (oneOf c (3 ∷ advanceNumbers))
         on true q = let z : _≡_ {A = ℕ} 0 1 = cc in absurd (zero-one z)
-        on false q = subst (λ (x : ℕ). T (oneOf x (3 ∷ 20 ∷ 21 ∷ 22 ∷ []))) (let p : 3 ≡ c = cc in p) tt
+        on false q = subst (λ (x : ℕ). T (oneOf x (3 ∷ advanceNumbers))) (let p : 3 ≡ c = cc in p) tt
 
     amounts : (a r : List Float) (d : Float) (v : List Float) → keeper n a r d ≡ done v → T (amountsPass n v)
     amounts a r d v e = on (argumentsPass n a r d) (λ h. both (amountsPass n a) _ h .0) e

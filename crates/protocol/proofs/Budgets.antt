@@ -11,7 +11,7 @@ use lib.Ieee.{Float, binary64, sub}
 use Rattle.protocol.specs.Schedule.{Step, check, pre, post, apply, rates, reading, arrive}
 use Rattle.protocol.specs.Execute.{Propagator, Reading, Advance, State, Outcome, go, stop, andThen, withAmounts, withRow}
 use Rattle.protocol.specs.Execute.{withAdvance, afterAdvance, propagate, execute, run}
-use Rattle.protocol.specs.PlainRun.{oneOf, Conditions, Advances, to-reading, to-boundary, Meets, spent, overflows, refuses, state}
+use Rattle.protocol.specs.PlainRun.{advanceNumbers, oneOf, Conditions, Advances, to-reading, to-boundary, Meets, spent, overflows, refuses, state}
 use Rattle.protocol.specs.PlainRun.{dose, summed-rates, advancesBy, Budgeted}
 use Rattle.protocol.proofs.FirstStop.{stop-go, go-same}
 use Rattle.protocol.proofs.Effects.{step-left}
@@ -78,7 +78,7 @@ pub budgeted-meets : {Refuses : Conditions} {budget c : ℕ} {t : Float} {x : St
     → length (s .advances) ≤ budget → Budgeted budget c (length (s .advances ++ advancesBy x))
 budgeted-meets {s = s} (spent to h) f = record { within = λ g. absurd (g refl); beyond = λ _. one-more to (s .advances) ∙ ap suc (le-antisymm f h) }
 budgeted-meets {s = s} (overflows to l h) f = other (λ q. omega arith) (omega (arith, l, one-more to (s .advances)))
-budgeted-meets {s = s} (refuses to l g o h) f = other (λ q. subst (λ (k : ℕ). T (oneOf k (20 ∷ 21 ∷ 22 ∷ []))) q o)
+budgeted-meets {s = s} (refuses to l g o h) f = other (λ q. subst (λ (k : ℕ). T (oneOf k advanceNumbers)) q o)
     (omega (arith, l, one-more to (s .advances)))
 budgeted-meets {s = s} (state h) f = other (λ q. omega arith) (omega (arith, f, no-more (s .advances)))
 budgeted-meets {s = s} (dose h) f = other (λ q. omega arith) (omega (arith, f, no-more (s .advances)))

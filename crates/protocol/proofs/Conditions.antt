@@ -27,7 +27,7 @@ use Rattle.protocol.specs.Schedule.{Step, check, pre, post, apply, rates
 use Rattle.protocol.specs.Schedule.{withRates, summed, marked, atBoundary, onInterval, following, fromFirst, schedule}
 use Rattle.protocol.specs.Execute.{Propagator, Row, Reading, State, Outcome, go, stop, andThen, withAmounts, withRow, withAdvance}
 use Rattle.protocol.specs.Execute.{dosed, dosedAmounts, afterAdvance, propagate, execute, run, begin, runOf}
-use Rattle.protocol.specs.PlainRun.{oneOf, argumentsPass, Conditions, KernelLaws, Prepared, Cycle, Advances, to-reading, to-boundary}
+use Rattle.protocol.specs.PlainRun.{advanceNumbers, stopNumbers, oneOf, argumentsPass, Conditions, KernelLaws, Prepared, Cycle, Advances, to-reading, to-boundary}
 use Rattle.protocol.specs.PlainRun.{Meets, spent, overflows, refuses, state, dose, summed-rates, FirstMet, rowsLeft}
 use Rattle.protocol.proofs.ListLaws.{both, and-T, all-snoc, All-map, All-append, All-filter}
 use Rattle.protocol.proofs.Times.{Inner, Rated, Passed, passed, boundaries-in, boundaries-rise, readings-in, rated, lasts, duration, not-zero}
@@ -265,7 +265,7 @@ module _ (n : ℕ) (advance : Propagator) {Refuses : Conditions} (budget : ℕ) 
         → advance (s .amounts) r (sub binary64 u t) ≡ refused c → Meets Refuses budget c u x s
     kernel-meets {x} {t} {r} {u} to g c l e = on (finite (sub binary64 u t)) (λ p. p) (λ p. p)
       where
-        arithmetic : (b : Bool) → (T b → c ≡ 3) → T (finite (sub binary64 u t)) → T (b || oneOf c (20 ∷ 21 ∷ 22 ∷ [])) → T (oneOf c (20 ∷ 21 ∷ 22 ∷ []))
+        arithmetic : (b : Bool) → (T b → c ≡ 3) → T (finite (sub binary64 u t)) → T (b || oneOf c advanceNumbers) → T (oneOf c advanceNumbers)
         arithmetic true f p h =
             absurd (T-not (argumentsPass n (s .amounts) r (sub binary64 u t)) (laws .three (s .amounts) r (sub binary64 u t) .0
             (e ∙ ap refused (f tt))) (arguments t r u g p))
@@ -479,7 +479,7 @@ module _ (n : ℕ) (advance : Propagator) {Refuses : Conditions} (laws : KernelL
   forward to-boundary g = g
 
   number : {s : State} {x : Step} {c : ℕ} {t : Float} → Cycle w → Ready n w x → Meets Refuses (w .propagations) c t x s
-      → T (oneOf c (20 ∷ 21 ∷ 22 ∷ 30 ∷ 31 ∷ 32 ∷ []))
+      → T (oneOf c stopNumbers)
   number k g (spent to h) = tt
   number k g (overflows {t = t} {u = u} to l h) = let p = forward to g in absurd (T-not (finite (sub binary64 u t)) h
       (lasts (passed given) t u k (p .0) (p .1) (p .2)))
@@ -494,7 +494,7 @@ module _ (n : ℕ) (advance : Propagator) {Refuses : Conditions} (laws : KernelL
   number k g (dose h) = tt
   number k g (summed-rates h) = tt
 
-  pub stop-numbers : Cycle w → (c : ℕ) (t : Float) (z : State) → runOf advance n w ss es a ≡ stop c t z → T (oneOf c (20 ∷ 21 ∷ 22 ∷ 30 ∷ 31 ∷ 32 ∷ []))
+  pub stop-numbers : Cycle w → (c : ℕ) (t : Float) (z : State) → runOf advance n w ss es a ≡ stop c t z → T (oneOf c stopNumbers)
   stop-numbers k c t z e = let f = first-met c t .0 (z, e) in number k (reached-ready (f .ahead) (f .step) (f .rest) (f .left) (f .parts) (f .ran)) (f .meets)
 
 -- ---- the number of a condition is above 0
@@ -503,7 +503,7 @@ meets-above (spent to h) = omega arith
 meets-above (overflows to l h) = omega arith
 meets-above (refuses {c = c} to l f o h) = on c o
   where
-    on : (c : ℕ) → T (oneOf c (20 ∷ 21 ∷ 22 ∷ [])) → 0 < c
+    on : (c : ℕ) → T (oneOf c advanceNumbers) → 0 < c
     on zero o = absurd o
     on (suc c) o = omega arith
 meets-above (state h) = omega arith

@@ -1,4 +1,4 @@
--- The library's run: it begins exactly where no test firstRefusal of it refuses. Its slices keep their lengths, and the amounts of row k
+-- The library's run: it begins exactly where no test ahead of it refuses. Its slices keep their lengths, and the amounts of row k
 -- stand from place k × n on. Assumes nothing.
 use mathlib.Core.Path.{_≡_, refl, sym, ap, ap₂, _∙_, subst}
 use Prim.Native.Nat.{ℕ, zero, suc, _+_, _-_, _*_, _≤_, _<_, zero-le}
@@ -26,7 +26,7 @@ use Rattle.protocol.specs.PlainRun.{Conditions, KernelLaws, rowsLeft, Pl
 use Rattle.protocol.proofs.ListLaws.{both}
 use Rattle.protocol.proofs.Theorems.{plain-run}
 
--- ---- the tests firstRefusal
+-- ---- the tests ahead
 -- what holds where none refuses
 pub record Passes (own : Option ℕ) (n : ℕ) (w : Window) (ss : List Float) (es : List Event) (a : List Float) (room : Room) : Type 0 where
   pub limits : T (leb (length es) mostEvents && leb (length ss) mostSamples)

@@ -12,7 +12,7 @@ use Rattle.binary64.specs.Lists.{flatMap, amountsPass}
 use Rattle.protocol.specs.Events.{boundaries}
 use Rattle.protocol.specs.Schedule.{schedule}
 use Rattle.protocol.specs.Execute.{Propagator, Advance, State, Outcome, go, stop, begin, runOf}
-use Rattle.protocol.specs.PlainRun.{oneOf, Conditions, KernelLaws, Prepared, Cycle, FirstMet, advancesBy, Reached, Budgeted, EveryPlainRun}
+use Rattle.protocol.specs.PlainRun.{stopNumbers, oneOf, Conditions, KernelLaws, Prepared, Cycle, FirstMet, advancesBy, Reached, Budgeted, EveryPlainRun}
 use Rattle.protocol.specs.SamplesApart.{EverySamplesApart}
 use Rattle.protocol.proofs.FirstStop.{stop-same, split-stops}
 use Rattle.protocol.proofs.Effects.{run-left, stop-left}
@@ -71,11 +71,11 @@ module _ (n : ℕ) (advance : Propagator) {Refuses : Conditions} (laws : KernelL
       (budgeted-meets (f .meets) (run-few advance (w .propagations) (f .ahead) (begin a) (f .left) zero-le (f .ran)))
 
   in-cycle : Cycle w → ((z : State) × (runOf advance n w ss es a ≡ go z))
-      ⊎ ((c : ℕ) × (t : Float) × (z : State) × (runOf advance n w ss es a ≡ stop c t z) × T (oneOf c (20 ∷ 21 ∷ 22 ∷ 30 ∷ 31 ∷ 32 ∷ [])))
+      ⊎ ((c : ℕ) × (t : Float) × (z : State) × (runOf advance n w ss es a ≡ stop c t z) × T (oneOf c stopNumbers))
   in-cycle k = on (runOf advance n w ss es a) refl
     where
       on : (o : Outcome) → runOf advance n w ss es a ≡ o → ((z : State) × (runOf advance n w ss es a ≡ go z))
-          ⊎ ((c : ℕ) × (t : Float) × (z : State) × (runOf advance n w ss es a ≡ stop c t z) × T (oneOf c (20 ∷ 21 ∷ 22 ∷ 30 ∷ 31 ∷ 32 ∷ [])))
+          ⊎ ((c : ℕ) × (t : Float) × (z : State) × (runOf advance n w ss es a ≡ stop c t z) × T (oneOf c stopNumbers))
       on (go z) e = inl (z, e)
       on (stop c t z) e = inr (c, t, z, e, stop-numbers n advance laws w ss es g a fine k c t z e)
 

@@ -26,7 +26,7 @@ use Rattle.protocol.specs.declared.Window.{Window}
 use Rattle.binary64.specs.Lists.{all, flatMap}
 use Rattle.protocol.specs.First.{unless, firstOf}
 use Rattle.protocol.specs.Events.{time, target, instants, sortedUnique, boundaryTimes, boundaries}
-use Rattle.protocol.specs.Prepare.{windowPasses, within, eventPasses, eventsPass, reckoned, prepare}
+use Rattle.protocol.specs.Prepare.{windowPasses, within, eventPasses, eventsPass, reckoned, validate, prepare}
 use Rattle.protocol.specs.Schedule.{infusionRate}
 use Rattle.protocol.specs.PlainRun.{Prepared, Cycle}
 use Rattle.protocol.proofs.ListLaws.{both, and-T, all→All, All-map, All-append, All-both}
@@ -44,7 +44,8 @@ good h = real-good (h .real)
 refused-none : {c : ℕ} → some c ≡ none → ⊥
 refused-none q = let z : _≡_ {A = ℕ} 0 1 = cc in omega arith
 
-five-pass : (a b c d e : Bool) → firstOf (unless a 13 ∷ unless b 10 ∷ unless c 11 ∷ unless d 12 ∷ unless e 14 ∷ []) ≡ none → T a × T b × T c × T d × T e
+five-pass : (a b c d e : Bool) → firstOf (unless a 13 ∷ firstOf (unless b 10 ∷ unless c 11 ∷ unless d 12 ∷ []) ∷ unless e 14 ∷ []) ≡ none
+    → T a × T b × T c × T d × T e
 five-pass true true true true true q = (tt, tt, tt, tt, tt)
 five-pass true true true true false q = absurd (refused-none q)
 five-pass true true true false e q = absurd (refused-none q)
@@ -129,7 +130,7 @@ pub record Passed (w : Window) (ss : List Float) (es : List Event) : Type 0 wher
   pub events-fine : All (Fine w) es
 
 pub passed : {n : ℕ} {w : Window} {ss : List Float} {es : List Event} → Prepared n w ss es → Passed w ss es
-unfolding prepare
+unfolding prepare validate
 passed {n} {w} {ss} {es} h =
     let v = five-pass (leb (length es) (w .events)) (windowPasses w) (all (within w) ss) (eventsPass n w [] es)
     (leb (reckoned ss es * n) (w .outputs)) (h .passes) in

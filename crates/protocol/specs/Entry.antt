@@ -27,7 +27,7 @@ pub record Room : Type 0 where
 abbrev pub roomFor : ℕ → ℕ → Room → Bool
 roomFor rows n room = leb rows (room .times) && (leb rows (room .sides) && leb (rows * n) (room .values))
 
--- the first number of the tests firstRefusal of the run: 5, the kernel's own, 3, the preparation's, 4
+-- the first number of the tests ahead of the run: 5, the kernel's own, 3, the preparation's, 4
 unfoldable pub firstRefusal : Option ℕ → ℕ → Window → List Float → List Event → List Float → Room → Option ℕ
 unfolding prepare
 firstRefusal own n w ss es a room =
@@ -39,7 +39,7 @@ firstRefusal own n w ss es a room =
     ∷ unless (roomFor (reckoned ss es) n room) 4
     ∷ [])
 
--- refused firstRefusal, or the outcome of a run that began; `own` is the number of the kernel's own test, and n its states
+-- refused ahead, or the outcome of a run that began; `own` is the number of the kernel's own test, and n its states
 unfoldable pub simulate : Propagator → Option ℕ → ℕ → Window → List Float → List Event → List Float → Room → Result Outcome
 unfolding firstRefusal runOf
 simulate advance own n w ss es a room = elim (firstRefusal own n w ss es a room) [ none ↦ done (runOf advance n w ss es a) | some c ↦ refused c ]
@@ -70,7 +70,7 @@ abbrev pub frontThenZeros : {A : Type 0} → A → ℕ → List A → List A →
 frontThenZeros z k xs old = xs ++ (replicate (k - length xs) z ++ drop k old)
 
 -- A slice at exit, of which k cells are reckoned: the cells of each row in turn. A stopped run leaves the reckoned cells zero, a refusal
--- firstRefusal of the run the slice as it was.
+-- ahead of the run the slice as it was.
 abbrev pub atExit : {A : Type 0} → A → (Row → List A) → ℕ → Result Outcome → List A → List A
 atExit z cells k (refused c) old = old
 atExit z cells k (done (stop c t s)) old = frontThenZeros z k [] old

@@ -24,6 +24,14 @@ use Rattle.protocol.specs.Execute.{Propagator, Row, Post, Advance, State
 abbrev pub oneOf : ℕ → List ℕ → Bool
 oneOf c cs = any (eqb c) cs
 
+-- the numbers of the arithmetic of an advance
+abbrev pub advanceNumbers : List ℕ
+advanceNumbers = 20 ∷ 21 ∷ 22 ∷ []
+
+-- those by which a run in a cycle stops
+abbrev pub stopNumbers : List ℕ
+stopNumbers = 20 ∷ 21 ∷ 22 ∷ 30 ∷ 31 ∷ 32 ∷ []
+
 -- what `advance` asks of its amounts, rates and duration
 abbrev pub argumentsPass : ℕ → List Float → List Float → Float → Bool
 argumentsPass n a r d = amountsPass n a && (amountsPass n r && nonnegative d)
@@ -36,7 +44,7 @@ Conditions = ℕ → List Float → List Float → Float → Type 0
 pub record KernelLaws (n : ℕ) (advance : Propagator) (Refuses : Conditions) : Type 0 where
   -- 3 exactly where an argument does not pass
   pub three : (a r : List Float) (d : Float) → (advance a r d ≡ refused 3) ↔ T (not (argumentsPass n a r d))
-  pub numbers : (a r : List Float) (d : Float) (c : ℕ) → advance a r d ≡ refused c → T (oneOf c (3 ∷ 20 ∷ 21 ∷ 22 ∷ []))
+  pub numbers : (a r : List Float) (d : Float) (c : ℕ) → advance a r d ≡ refused c → T (oneOf c (3 ∷ advanceNumbers))
   pub amounts : (a r : List Float) (d : Float) (v : List Float) → advance a r d ≡ done v → T (amountsPass n v)
   -- where they pass and the duration is not 0, a number exactly where its condition holds
   pub conditions : (a r : List Float) (d : Float) → T (argumentsPass n a r d) → T (not (eq d plusZero)) → (c : ℕ)
@@ -63,14 +71,24 @@ pub data Advances : Step → Float → List Float → Float → Type 0 where
 -- the condition of a number, met with a time by the step x at the state s
 pub data Meets (Refuses : Conditions) (budget : ℕ) : ℕ → Float → Step → State → Type 0 where
   -- 30: the budget is spent; the row's time
-  spent : {t : Float} {r : List Float} {u : Float} {x : Step} {s : State} → Advances x t r u → budget ≤ length (s .advances) → Meets Refuses budget 30 u x s
+  spent : {t : Float} {r : List Float} {u : Float} {x : Step} {s : State}
+      → Advances x t r u
+      → budget ≤ length (s .advances)
+      → Meets Refuses budget 30 u x s
   -- 3: u − t overflows; the row's time
-  overflows : {t : Float} {r : List Float} {u : Float} {x : Step} {s : State} → Advances x t r u → length (s .advances) < budget
-      → T (not (finite (sub binary64 u t))) → Meets Refuses budget 3 u x s
+  overflows : {t : Float} {r : List Float} {u : Float} {x : Step} {s : State}
+      → Advances x t r u
+      → length (s .advances) < budget
+      → T (not (finite (sub binary64 u t)))
+      → Meets Refuses budget 3 u x s
   -- 20, 21, 22: u − t is finite, and over it the number's condition holds; the row's time
-  refuses : {t : Float} {r : List Float} {u : Float} {c : ℕ} {x : Step} {s : State} → Advances x t r u → length (s .advances) < budget
+  refuses : {t : Float} {r : List Float} {u : Float} {c : ℕ} {x : Step} {s : State}
+      → Advances x t r u
+      → length (s .advances) < budget
       → T (finite (sub binary64 u t))
-      → T (oneOf c (20 ∷ 21 ∷ 22 ∷ [])) → Refuses c (s .amounts) r (sub binary64 u t) → Meets Refuses budget c u x s
+      → T (oneOf c advanceNumbers)
+      → Refuses c (s .amounts) r (sub binary64 u t)
+      → Meets Refuses budget c u x s
   -- 31: an amount is not finite or below 0, at the check or behind a reset or a bolus; the boundary's time
   state : {t : Float} {s : State} → T (not (all nonnegative (s .amounts))) → Meets Refuses budget 31 t (check t) s
   dose : {t : Float} {e : Event} {s : State} → T (not (all nonnegative (dosedAmounts e (s .amounts)))) → Meets Refuses budget 31 t (apply t e) s
@@ -126,28 +144,46 @@ pub record Budgeted (budget number advances : ℕ) : Type 0 where
   pub within : (number ≡ 30 → ⊥) → advances ≤ budget
   pub beyond : number ≡ 30 → advances ≡ suc budget
 
-pub record PlainRun (advance : Propagator) (Refuses : Conditions) (n : ℕ) (w : Window) (ss : List Float) (es : List Event) (a : List Float) : Type 0 where
-  -- within the reckoned rows, each of n amounts that are finite and at least 0, wherever the run ends
-  pub within : length (rowsLeft (runOf advance n w ss es a)) ≤ reckoned ss es
-  pub rows : T (all (λ (r : Row). amountsPass n (r .amounts)) (rowsLeft (runOf advance n w ss es a)))
-  -- where it goes on through the whole schedule it comes to the post row at the end
-  pub reached : (z : State) → runOf advance n w ss es a ≡ go z → Reached n w ss es z
-  -- it stops with a number and a time exactly where the first step that refuses meets the condition of the number with that time
-  pub exact : (c : ℕ) (t : Float) → ((z : State) × (runOf advance n w ss es a ≡ stop c t z))
-      ↔ FirstMet advance Refuses (w .propagations) (begin a) (schedule n w ss es) c t
-  -- the advances are those of the steps up to the refusing one, that one too
-  pub advances : (c : ℕ) (t : Float) (z : State) → runOf advance n w ss es a ≡ stop c t z
-      → (f : FirstMet advance Refuses (w .propagations) (begin a) (schedule n w ss es) c t)
-      → z .advances ≡ flatMap advancesBy (f .ahead ++ (f .step ∷ []))
-  -- at most the budget, unless it stops with 30; the budget and one then
-  pub ended : (z : State) → runOf advance n w ss es a ≡ go z → length (z .advances) ≤ w .propagations
-  pub budgeted : (c : ℕ) (t : Float) (z : State) → runOf advance n w ss es a ≡ stop c t z → Budgeted (w .propagations) c (length (z .advances))
-  -- in a cycle it reaches the end, or stops by 20, 21, 22, 30, 31 or 32, and never by 3
-  pub cycle : Cycle w → ((z : State) × (runOf advance n w ss es a ≡ go z))
-      ⊎ ((c : ℕ) × (t : Float) × (z : State) × (runOf advance n w ss es a ≡ stop c t z) × T (oneOf c (20 ∷ 21 ∷ 22 ∷ 30 ∷ 31 ∷ 32 ∷ [])))
+-- ---- what is claimed of the run of a list from the amounts a
+module _ (advance : Propagator) (Refuses : Conditions) (n : ℕ) (w : Window) (ss : List Float) (es : List Event) (a : List Float) where
+  -- 01's run
+  abbrev outcome : Outcome
+  outcome = runOf advance n w ss es a
 
+  -- it stops with the number c and the time t, and leaves the state z
+  abbrev Stops : ℕ → Float → State → Type 0
+  Stops c t z = outcome ≡ stop c t z
+
+  -- the first condition that it meets is that of the number c, with the time t
+  abbrev Met : ℕ → Float → Type 0
+  Met c t = FirstMet advance Refuses (w .propagations) (begin a) (schedule n w ss es) c t
+
+  pub record PlainRun : Type 0 where
+    -- the rows are within the reckoned ones, wherever the run ends
+    pub within : length (rowsLeft outcome) ≤ reckoned ss es
+    -- each has n amounts that are finite and at least 0
+    pub rows : T (all (λ (r : Row). amountsPass n (r .amounts)) (rowsLeft outcome))
+    -- where it goes on through the whole schedule it comes to the post row at the end
+    pub reached : (z : State) → outcome ≡ go z → Reached n w ss es z
+    -- it stops with a number and a time exactly where the first step that refuses meets the condition of the number with that time
+    pub exact : (c : ℕ) (t : Float) → ((z : State) × Stops c t z) ↔ Met c t
+    -- the advances are those of the steps up to the refusing one, that one too
+    pub advances : (c : ℕ) (t : Float) (z : State) → Stops c t z → (f : Met c t) → z .advances ≡ flatMap advancesBy (f .ahead ++ (f .step ∷ []))
+    -- at most the budget where it reaches the end
+    pub ended : (z : State) → outcome ≡ go z → length (z .advances) ≤ w .propagations
+    -- and where it stops, unless by 30; the budget and one then
+    pub budgeted : (c : ℕ) (t : Float) (z : State) → Stops c t z → Budgeted (w .propagations) c (length (z .advances))
+    -- in a cycle it reaches the end, or stops by 20, 21, 22, 30, 31 or 32, and never by 3
+    pub cycle : Cycle w
+        → ((z : State) × (outcome ≡ go z)) ⊎ ((c : ℕ) × (t : Float) × (z : State) × Stops c t z × T (oneOf c stopNumbers))
+
+-- for every kernel with these laws, every list that the preparation passes, and amounts that are finite and at least 0
 abbrev pub EveryPlainRun : Type 1
 EveryPlainRun =
-    (n : ℕ) (advance : Propagator) (Refuses : Conditions) → KernelLaws n advance Refuses → (w : Window) (ss : List Float) (es : List Event)
+    (n : ℕ) (advance : Propagator) (Refuses : Conditions)
+    → KernelLaws n advance Refuses
+    → (w : Window) (ss : List Float) (es : List Event)
     → Prepared n w ss es
-    → (a : List Float) → T (amountsPass n a) → PlainRun advance Refuses n w ss es a
+    → (a : List Float)
+    → T (amountsPass n a)
+    → PlainRun advance Refuses n w ss es a

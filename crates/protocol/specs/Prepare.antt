@@ -48,13 +48,16 @@ eventsPass n w seen (e ∷ es) = eventPasses n w seen e && eventsPass n w (e ∷
 abbrev pub reckoned : List Float → List Event → ℕ
 reckoned ss es = 4 * length es + length ss + 2
 
--- for n states: none, or the number of the first test that fails
+-- `validate`, for n states: none, or the number of the first test that fails
+unfoldable pub validate : ℕ → Window → List Float → List Event → Option ℕ
+validate n w ss es = firstOf (unless (windowPasses w) 10 ∷ unless (all (within w) ss) 11 ∷ unless (eventsPass n w [] es) 12 ∷ [])
+
+-- 13, `validate`, 14
 unfoldable pub prepare : ℕ → Window → List Float → List Event → Option ℕ
+unfolding validate
 prepare n w ss es =
     firstOf
     (unless (leb (length es) (w .events)) 13
-    ∷ unless (windowPasses w) 10
-    ∷ unless (all (within w) ss) 11
-    ∷ unless (eventsPass n w [] es) 12
+    ∷ validate n w ss es
     ∷ unless (leb (reckoned ss es * n) (w .outputs)) 14
     ∷ [])

@@ -26,8 +26,15 @@ pub record SamplesApart (z z' : State) : Type 0 where
   pub readings : (r r' : Row) → List·Memᴰ r (z .rows) → List·Memᴰ r' (z' .rows) → r .side ≡ Reading → r' .side ≡ Reading
       → T (eq (r .time) (r' .time)) → r .amounts ≡ r' .amounts
 
+-- of two windows with the same ends, samples of their own, one list and the same amounts
 abbrev pub EverySamplesApart : Type 0
 EverySamplesApart =
-    (n : ℕ) (advance : Propagator) (w w' : Window) (ss ss' : List Float) (es : List Event) (a : List Float) → Prepared n w ss es
+    (n : ℕ) (advance : Propagator) (w w' : Window) (ss ss' : List Float) (es : List Event) (a : List Float)
+    → Prepared n w ss es
     → Prepared n w' ss' es
-    → w .start ≡ w' .start → w .end ≡ w' .end → (z z' : State) → runOf advance n w ss es a ≡ go z → runOf advance n w' ss' es a ≡ go z' → SamplesApart z z'
+    → w .start ≡ w' .start
+    → w .end ≡ w' .end
+    → (z z' : State)
+    → runOf advance n w ss es a ≡ go z
+    → runOf advance n w' ss' es a ≡ go z'
+    → SamplesApart z z'

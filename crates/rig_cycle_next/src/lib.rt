@@ -10,11 +10,12 @@ use sheet_kernel::tolerance_of;
 ghost use mathlib.Core.Path.{_≡_};
 ghost use Prim.Native.Nat.{_+_, _/_, _≤_};
 ghost use lib.ListN.{length, take, drop};
-ghost use Rattle.limits.specs.Limits.{mostCycleEvents, mostSamples, eventSize, cycleRows, cycleValues};
+ghost use Rattle.limits.specs.Limits.{cycleRows, cycleValues};
 ghost use Rattle.refusal.specs.Result.{done};
 ghost use Rattle.linear_pk.specs.LinearPk.{sound, stateCount};
 ghost use Rattle.cycle.specs.Closed.{got};
 ghost use Rattle.sheet.specs.Sheet.{wordsOf};
+ghost use Rattle.sheet.specs.Readable.{Readable};
 ghost use Rattle.sheet_kernel.specs.CycleTolerance.{toleranceOf};
 ghost use Rattle.rig_steady_cycle.specs.SheetCycle.{steadyWith};
 ghost use Rattle.rig_cycle_next.specs.NextRun.{nextWith};
@@ -35,8 +36,7 @@ pub fn run_next(
     sides: &mut [u8],
     values: &mut [f64],
 ) -> usize
-    requires { ⌜ (sound kernel ≡ done kernel) × (72 ≤ length (now window)) × (length (now events) / 8 / eventSize ≤ mostCycleEvents)
-        × (length (now samples) / 8 ≤ mostSamples) × (length (now readings) ≡ length (now samples) / 8)
+    requires { ⌜ (sound kernel ≡ done kernel) × Readable (now window) (now samples) (now events) × (length (now readings) ≡ length (now samples) / 8)
         × Solves (steadyWith kernel (wordsOf (now window)) (wordsOf (now samples)) (wordsOf (now events))) (now amounts) (now residual)
         × (cycleRows ≤ length (now times)) × (cycleRows ≤ length (now sides)) × (cycleValues ≤ length (now values)) ⌝ }
     ensures { λ r. ⌜ (r + stateCount kernel ≤ length (now (values .exit)))
@@ -68,8 +68,8 @@ pub fn run_next(
     )
 }
 
-// The printout of that cycle.
-pub fn print_next(
+// Runs that cycle and prints it.
+pub fn next_solved(
     kernel: LinearPk,
     window: &[u8],
     samples: &[u8],
@@ -82,8 +82,7 @@ pub fn print_next(
     values: &mut [f64],
     out: &mut [u8],
 ) -> PrintReply
-    requires { ⌜ (sound kernel ≡ done kernel) × (72 ≤ length (now window)) × (length (now events) / 8 / eventSize ≤ mostCycleEvents)
-        × (length (now samples) / 8 ≤ mostSamples) × (length (now readings) ≡ length (now samples) / 8)
+    requires { ⌜ (sound kernel ≡ done kernel) × Readable (now window) (now samples) (now events) × (length (now readings) ≡ length (now samples) / 8)
         × Solves (steadyWith kernel (wordsOf (now window)) (wordsOf (now samples)) (wordsOf (now events))) (now amounts) (now residual)
         × (cycleRows ≤ length (now times)) × (cycleRows ≤ length (now sides)) × (cycleValues ≤ length (now values)) ⌝ }
     ensures { λ r. ⌜ Prints (cyclePrintout (nextWith kernel (wordsOf (now (window .entry))) (wordsOf (now (samples .entry)))

@@ -32,7 +32,7 @@ use Rattle.rig_run_sheet.proofs.Amounts.{few-states}
 use Rattle.sheet_kernel.specs.CycleTolerance.{toleranceOf}
 use Rattle.rig_steady_cycle.specs.SheetCycle.{steadyWith}
 use Rattle.rig_steady_sheet.specs.SteadySheet.{steadySheet, steadyOfBytes}
-use Rattle.rig_steady_sheet.proofs.Kernels.{model-sound}
+use Rattle.sheet_kernel.proofs.Kernels.{model-sound}
 use Rattle.printout_cycle.specs.CyclePrintout.{NextCycle, stateCloses, closes, linesText, cycleText}
 use Rattle.printout_cycle.proofs.Lines.{text-length}
 use Rattle.rig_cycle_next.specs.NextRun.{nextWith}

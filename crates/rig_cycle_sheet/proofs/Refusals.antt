@@ -18,7 +18,7 @@ use Rattle.printout.specs.declared.PrintReply.{PrintReply}
 use Rattle.printout.proofs.Replies.{prints}
 use Rattle.printout_steady.specs.SteadyPrintout.{steadyText, steadyResult}
 use Rattle.rig_steady_cycle.specs.SheetCycle.{steadyWith}
-use Rattle.rig_steady_cycle.specs.SteadyAnswer.{Told}
+use Rattle.periodic_acceptance.specs.Replies.{SteadyAnswer}
 use Rattle.rig_steady_cycle.proofs.Kept.{Kept}
 use Rattle.printout_cycle.specs.CyclePrintout.{NextCycle, cycleText}
 use Rattle.rig_cycle_next.specs.NextRun.{nextWith}
@@ -44,16 +44,16 @@ unfolding nextWith
 next-stops k w ss es q = rw q
 
 -- ---- what a reply tells of a closed cycle of n states
-module _ (n : ℕ) (o : Timed SteadyState) (kept : Kept n o) {r : SteadyReport} {a a' b b' : List Float} (told : Told o r a b a' b') where
-  pub told-refused : (r .number ≡ 0 → ⊥) → o ≡ stopped (r .number) (r .time)
-  told-refused h = on o (told .reply)
+module _ (n : ℕ) (o : Timed SteadyState) (kept : Kept n o) {r : SteadyReport} {a a' b b' : List Float} (answer : SteadyAnswer o r a b a' b') where
+  pub answer-refused : (r .number ≡ 0 → ⊥) → o ≡ stopped (r .number) (r .time)
+  answer-refused h = on o (answer .reply)
     where
       on : (o : Timed SteadyState) → r ≡ steadyReportOf o → o ≡ stopped (r .number) (r .time)
       on (stopped c t) e = rw e
       on (got s) e = absurd (h (ap (λ (x : SteadyReport). x .number) e))
 
-  pub told-solved : r .number ≡ 0 → length a ≡ n → length b ≡ n → Solves o a' b'
-  told-solved h l m = on o kept (told .reply) (told .cells) (told .beside)
+  pub answer-solved : r .number ≡ 0 → length a ≡ n → length b ≡ n → Solves o a' b'
+  answer-solved h l m = on o kept (answer .reply) (answer .amounts) (answer .residuals)
     where
       front : (xs old : List Float) → length xs ≡ n → length old ≡ n → xs ++ drop (length xs) old ≡ xs
       front xs old p q = rw (p ∙ sym q, drop-length old, append-nil xs)

@@ -1,17 +1,18 @@
 -- One more cycle from the amounts of a sheet's closed one, and the bytes that `rig-cycle` prints of it. Definitions, and two claims.
 use mathlib.Core.Path.{_≡_}
-use mathlib.Core.Bool.{true}
+use mathlib.Core.Bool.{true, false}
 use mathlib.Core.List.{List}
 use Prim.Native.Nat.{ℕ, _≤_}
 use lib.ListN.{length}
 use lib.Ieee.{Float}
+use Rattle.limits.specs.Limits.{states}
 use Rattle.linear_pk.specs.declared.kernel.LinearPk.{LinearPk}
 use Rattle.sheet.specs.Sheet.{Sheet, readSheet}
 use Rattle.sheet_kernel.specs.Values.{modelOf}
 use Rattle.cycle.specs.Closed.{Timed, stopped, got, then, untimed, SteadyState}
 use Rattle.printout.specs.Printouts.{Printout}
 use Rattle.rig_steady_sheet.specs.SteadySheet.{steadyOfBytes}
-use Rattle.printout_cycle.specs.CyclePrintout.{NextCycle, closes}
+use Rattle.printout_cycle.specs.CyclePrintout.{NextCycle, closes, linesLength}
 use Rattle.rig_cycle_next.specs.NextRun.{nextWith}
 use Rattle.rig_cycle_next.specs.NextPrintout.{cyclePrintout}
 
@@ -28,9 +29,9 @@ abbrev pub cyclePrintoutOfBytes : List ℕ → Printout
 cyclePrintoutOfBytes bs = cyclePrintout (nextOfBytes bs)
 
 -- ---- what is claimed
--- room for the printout of any sheet: four states
+-- room for the printout of any sheet: the most states, and the longer verdict
 abbrev pub mostCycleBytes : ℕ
-mostCycleBytes = 283
+mostCycleBytes = linesLength states false
 
 abbrev pub EveryCyclePrintoutFits : Type 0
 EveryCyclePrintoutFits = (bs : List ℕ) → length (cyclePrintoutOfBytes bs .text) ≤ mostCycleBytes

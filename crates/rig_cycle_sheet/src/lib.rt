@@ -6,28 +6,31 @@ use periodic_inputs::side_cells;
 use periodic_inputs::time_cells;
 use periodic_inputs::value_cells;
 use printout::PrintReply;
+use printout::print_refusal;
 use printout_steady::print_steady;
 use refusal::Reply;
-use rig_cycle_next::print_next;
+use rig_cycle_next::next_solved;
 use rig_run_sheet::sample_cells;
 use rig_steady_cycle::solve_bodies;
 ghost use mathlib.Core.Path.{_≡_};
 ghost use Prim.Native.Nat.{_/_, _≤_};
 ghost use lib.ListN.{length};
-ghost use Rattle.limits.specs.Limits.{mostCycleEvents, mostSamples, eventSize, cycleRows, cycleValues};
+ghost use Rattle.limits.specs.Limits.{cycleRows, cycleValues};
 ghost use Rattle.refusal.specs.Numbers.{replyNumber};
 ghost use Rattle.refusal.specs.Result.{done};
 ghost use Rattle.linear_pk.specs.LinearPk.{sound, stateCount};
 ghost use Rattle.periodic_acceptance.specs.Entry.{steadyReply};
-ghost use Rattle.sheet.specs.Sheet.{wordsOf, modelFits};
+ghost use Rattle.sheet.specs.Sheet.{wordsOf};
+ghost use Rattle.sheet.specs.Readable.{Readable};
 ghost use Rattle.printout.specs.Replies.{Prints};
 ghost use Rattle.rig_cycle_next.specs.NextRun.{nextWith};
 ghost use Rattle.rig_cycle_next.specs.NextPrintout.{cyclePrintout};
-ghost use mathlib.Core.Bool.{true};
-ghost use mathlib.Core.List.{[]};
 ghost use Rattle.printout.specs.Cells.{printed, printedLength};
 ghost use Rattle.printout.specs.Printouts.{numberInto};
-ghost use Rattle.rig_cycle_sheet.specs.CycleSheet.{nextSheet, cyclePrintoutOfBytes};
+ghost use Rattle.rig_cycle_sheet.specs.CycleSheet.{cyclePrintoutOfBytes};
+
+// The most bytes of a printout: a line of the most states, and the longer verdict.
+pub const CYCLE_BYTES: usize = 68 * STATES + 11;
 
 // Whether a cycle is solved, or its refusal, and the time of that.
 struct Refused {
@@ -50,8 +53,8 @@ fn refusal_of(reply: SteadyReply) -> Refused
     }
 }
 
-// The printout of a kernel and the other bodies: the refusal of their closed cycle, or one cycle more.
-pub fn next_bodies(
+// Solves the cycle of a kernel and the other bodies in lent cells, runs one cycle more, and prints that, or the refusal of the closed one.
+pub fn next_cells(
     kernel: LinearPk,
     window: &[u8],
     samples: &[u8],
@@ -64,8 +67,7 @@ pub fn next_bodies(
     values: &mut [f64],
     out: &mut [u8],
 ) -> PrintReply
-    requires { ⌜ (sound kernel ≡ done kernel) × (72 ≤ length (now window)) × (length (now events) / 8 / eventSize ≤ mostCycleEvents)
-        × (length (now samples) / 8 ≤ mostSamples) × (length (now readings) ≡ length (now samples) / 8)
+    requires { ⌜ (sound kernel ≡ done kernel) × Readable (now window) (now samples) (now events) × (length (now readings) ≡ length (now samples) / 8)
         × (length (now amounts) ≡ stateCount kernel) × (length (now residual) ≡ stateCount kernel)
         × (cycleRows ≤ length (now times)) × (cycleRows ≤ length (now sides)) × (cycleValues ≤ length (now values)) ⌝ }
     ensures { λ r. ⌜ Prints (cyclePrintout (nextWith kernel (wordsOf (now (window .entry))) (wordsOf (now (samples .entry)))
@@ -83,7 +85,7 @@ pub fn next_bodies(
     let reply = refused.reply;
     let number = refusal::number(reply);
     if number == 0 {
-        return print_next(
+        return next_solved(
             kernel,
             window,
             samples,
@@ -101,16 +103,15 @@ pub fn next_bodies(
     printout::reply_of(reply, length)
 }
 
-// Cells for the cycle of a kernel and the other bodies.
-fn print_kernel(
+// The same in cells of its own.
+fn next_bodies(
     kernel: LinearPk,
     window: &[u8],
     samples: &[u8],
     events: &[u8],
     out: &mut [u8],
 ) -> PrintReply
-    requires { ⌜ (sound kernel ≡ done kernel) × (72 ≤ length (now window)) × (length (now events) / 8 / eventSize ≤ mostCycleEvents)
-        × (length (now samples) / 8 ≤ mostSamples) ⌝ }
+    requires { ⌜ (sound kernel ≡ done kernel) × Readable (now window) (now samples) (now events) ⌝ }
     ensures { λ r. ⌜ Prints (cyclePrintout (nextWith kernel (wordsOf (now (window .entry))) (wordsOf (now (samples .entry)))
         (wordsOf (now (events .entry))))) (now (out .entry)) r (now (out .exit)) ⌝ }
 {
@@ -122,7 +123,7 @@ fn print_kernel(
     let mut times = time_cells();
     let mut sides = side_cells();
     let mut values = value_cells();
-    next_bodies(
+    next_cells(
         kernel,
         window,
         samples,
@@ -137,51 +138,21 @@ fn print_kernel(
     )
 }
 
-// The printout of a sheet's bodies.
-fn print_sheet(
-    model: &[u8],
-    window: &[u8],
-    samples: &[u8],
-    events: &[u8],
-    out: &mut [u8],
-) -> PrintReply
-    requires { ⌜ (modelFits (wordsOf (now model)) ≡ true) × (72 ≤ length (now window))
-        × (length (now events) / 8 / eventSize ≤ mostCycleEvents) × (length (now samples) / 8 ≤ mostSamples) ⌝ }
-    ensures { λ r. ⌜ Prints (cyclePrintout (nextSheet (record {
-      model = wordsOf (now (model .entry));
-      window = wordsOf
-          (now (window .entry));
-      amounts = [];
-      samples = wordsOf (now (samples .entry));
-      events = wordsOf (now (events .entry));
-    })))
-        (now (out .entry)) r (now (out .exit)) ⌝ }
-{
-    let made = sheet_kernel::kernel_of(model);
-    let reply = made.reply;
-    match reply {
-        Reply::Refused(refusal) => { printout::print_refusal(refusal, out) }
-        Reply::Done => {
-            let kernel = made.kernel;
-            print_kernel(kernel, window, samples, events, out)
-        }
-    }
-}
-
 // The printout of a sheet's next cycle, from the front of out. Where it has no room there nothing is written, and an answer is 4.
 pub fn cycle_sheet(bytes: &[u8], out: &mut [u8]) -> PrintReply
     ensures { λ r. ⌜ replyNumber (r .reply) ≡ numberInto (now (out .entry)) (cyclePrintoutOfBytes (now (bytes .entry))) ⌝ }
     ensures { λ r. ⌜ r .length ≡ printedLength (cyclePrintoutOfBytes (now (bytes .entry)) .text) (now (out .entry)) ⌝ }
     ensures { λ r. ⌜ now (out .exit) ≡ printed (cyclePrintoutOfBytes (now (bytes .entry)) .text) (now (out .entry)) ⌝ }
 {
-    let read = sheet::read_sheet(bytes);
+    let read = sheet_kernel::read_kernel(bytes);
     let reply = read.reply;
     match reply {
-        Reply::Refused(unread) => printout::print_refusal(unread, out),
+        Reply::Refused(refusal) => print_refusal(refusal, out),
         Reply::Done => {
+            let kernel = read.kernel;
             let places = read.places;
-            print_sheet(
-                sheet::body(bytes, places.model, places.window),
+            next_bodies(
+                kernel,
                 sheet::body(bytes, places.window, places.amounts),
                 sheet::body(bytes, places.samples, places.events),
                 sheet::body(bytes, places.events, places.end),

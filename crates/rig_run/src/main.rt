@@ -1,13 +1,24 @@
 // Reads a sheet on standard input to its end and writes its printout.
-ghost use Prim.Native.Nat.{_≤_};
+use limits::SHEET_BYTES;
+use rig_run_printout::RUN_BYTES;
+ghost use Prim.Native.Nat.{_+_};
 ghost use mathlib.Core.Path.{_≡_};
 ghost use lib.ListN.{length};
+ghost use Rattle.limits.specs.Limits.{sheetBytes};
+ghost use Rattle.rig_run_printout.specs.Rig.{mostBytes};
 
 // Room for a sheet and one byte more: a longer file is as unfit as this much of it.
-fn input() -> [u8; 65537]
-    ensures { λ r. ⌜ 65537 ≡ length r ⌝ }
+fn input() -> [u8; SHEET_BYTES + 1]
+    ensures { λ r. ⌜ sheetBytes + 1 ≡ length r ⌝ }
 {
-    [0; 65537]
+    [0; SHEET_BYTES + 1]
+}
+
+// Room for any printout.
+fn output() -> [u8; RUN_BYTES]
+    ensures { λ r. ⌜ mostBytes ≡ length r ⌝ }
+{
+    [0; RUN_BYTES]
 }
 
 // Runs the sheet and writes its printout; whether all of it was written.
@@ -19,7 +30,7 @@ fn run(sheet: &[u8], text: &mut [u8]) -> bool {
 fn main() {
     let mut bytes = input();
     let n = io::read_full(0, &mut bytes);
-    let mut text = io::large_buffer();
+    let mut text = output();
     let written = run(&bytes[..n], &mut text);
     if !written {
         io::write_all(2, b"rig-run: standard output cannot be written\n");

@@ -21,7 +21,8 @@ use Rattle.sheet.specs.Sheet.{Sheet, withinLimits, readSheet}
 use Rattle.sheet_kernel.specs.Values.{modelOf}
 use Rattle.sheet.proofs.Reading.{read-limits}
 use Rattle.printout.specs.Printout.{places, rowsLength, textLength, refusedText}
-use Rattle.printout.proofs.Lengths.{text-length, refused-text-length}
+use Rattle.printout.proofs.Lengths.{places-most, text-length, refused-text-length}
+use Rattle.printout_lines.proofs.Most.{rows-most, places-mono}
 use Rattle.printout.specs.Printouts.{Printout}
 use Rattle.sheet_events.specs.OrderedDoses.{ordered}
 use Rattle.rig_run_sheet.specs.SheetRun.{runWith, reckonedOf}
@@ -32,41 +33,12 @@ use Rattle.rig_run_printout.proofs.Runs.{run-kept}
 use Rattle.rig_run_printout.specs.Rig.{runPrintoutOf, mostBytes, EveryPrintoutFits}
 use Rattle.rig_run_printout.proofs.Sheets.{sheet-refused, sheet-runs}
 
--- ---- digits
-places-most : (m w : ℕ) → places m w ≤ m + 1
-unfolding places
-places-most zero w = omega arith
-places-most (suc m) w = on (ltb w 10) (places-most m (w / 10))
-  where
-    on : (b : Bool) → places m (w / 10) ≤ m + 1 → cond b 1 (suc (places m (w / 10))) ≤ suc m + 1
-    on true h = omega arith
-    on false h = omega arith
-
-three-places : (w : ℕ) → w < 1000 → places 19 w ≤ 3
-unfolding places
-three-places w h = on (ltb w 10) (ltb (w / 10) 10) (lt-ltb (w / 10 / 10) 10 (omega arith))
-  where
-    on : (a b : Bool) {c : Bool} → c ≡ true → cond a 1 (suc (cond b 1 (suc (cond c 1 (suc (places 16 (w / 10 / 10 / 10))))))) ≤ 3
-    on true b e = omega arith
-    on false true e = omega arith
-    on false false e = subst (λ (c : Bool). suc (suc (cond c 1 (suc (places 16 (w / 10 / 10 / 10))))) ≤ 3) (sym e) (omega arith)
-
--- ---- rows
-rows-most : (n k : ℕ) (sides : List ℕ) → n ≤ states → rowsLength n k sides ≤ 90 * k
-unfolding rowsLength
-rows-most n zero sides h = omega arith
-rows-most n (suc k) sides h = omega (arith, rows-most n k sides h, side (eqb (getD sides k 0) 1))
-  where
-    side : (b : Bool) → cond b 3 4 ≤ states
-    side true = omega arith
-    side false = omega arith
-
 length-most : (number rows n : ℕ) (sides : List ℕ) → rows ≤ sheetRows → n ≤ states → textLength number rows n sides ≤ mostBytes
 unfolding textLength
 length-most number rows n sides r h = on (eqb number 0)
   where
     on : (b : Bool) → cond b (31 + places 19 rows + rowsLength n rows sides) (26 + places 19 number) ≤ mostBytes
-    on true = omega (arith, three-places rows (omega arith), rows-most n rows sides h)
+    on true = omega (arith, places-mono 19 rows sheetRows r, rows-most n sides rows h)
     on false = omega (arith, places-most 19 number)
 
 refusal-most : (c : ℕ) (t : Float) → length (refusedText c t) ≤ mostBytes

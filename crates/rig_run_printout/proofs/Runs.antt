@@ -10,7 +10,6 @@ use lib.Dec.{T, leb}
 use lib.ListN.{length, length-append}
 use lib.Ieee.{Float, binary64, fits}
 use lib.Ieee.Bits.{ofBits-fits}
-use Rattle.limits.specs.Limits.{mostEvents, mostSamples}
 use Rattle.binary64.specs.Doubles.{plusZero}
 use Rattle.binary64.specs.Lists.{all, flatMap, amountsPass}
 use Rattle.matrix.specs.Matrix.{tabulate}
@@ -19,7 +18,6 @@ use Rattle.linear_pk.specs.LinearPk.{sound, stateCount, volumesPass, matrixFini
 use Rattle.linear_pk.specs.declared.kernel.LinearPk.{LinearPk}
 use Rattle.protocol.specs.declared.Event.{Event}
 use Rattle.protocol.specs.declared.Window.{Window}
-use Rattle.protocol.specs.First as F
 use Rattle.protocol.specs.Events.{time}
 use Rattle.protocol.specs.Prepare.{windowPasses, within, eventsPass, reckoned, prepare}
 use Rattle.protocol.specs.Execute.{Pre, Row, State, Outcome, go, stop, runOf}
@@ -28,6 +26,7 @@ use Rattle.protocol.specs.PlainRun.{Prepared, PlainRun, rowsLeft}
 use Rattle.protocol.proofs.Conditions.{meets-above}
 use Rattle.protocol.proofs.EntryLaws.{Passes, n-each, ahead-none, simulate-runs, simulate-refuses}
 use Rattle.preparation.specs.Preparation.{ownNumber}
+use Rattle.preparation.proofs.Positive.{Positive, ahead-positive}
 use Rattle.simulation.specs.KernelRun.{propagatorOf, refusalOf}
 use Rattle.simulation_report.specs.Replies.{reported}
 use Rattle.simulation_report.specs.declared.Report.{Report}
@@ -52,57 +51,6 @@ prepared n w ss es h = record {
   times-fit = times-made es;
   passes = h;
 }
-
--- ---- numbers
-abbrev Positive : Option ℕ → Type 0
-Positive none = Unit {0}
-Positive (some c) = 1 ≤ c
-
-first-positive : (a b c d e : Option ℕ) → Positive a → Positive b → Positive c → Positive d → Positive e → Positive (F.firstOf (a ∷ b ∷ c ∷ d ∷ e ∷ []))
-first-positive (some k) b c d e p q r s t = p
-first-positive none (some k) c d e p q r s t = q
-first-positive none none (some k) d e p q r s t = r
-first-positive none none none (some k) e p q r s t = s
-first-positive none none none none (some k) p q r s t = t
-first-positive none none none none none p q r s t = tt
-
-unless-positive : (b : Bool) (c : ℕ) → 1 ≤ c → Positive (F.unless b c)
-unless-positive true c h = tt
-unless-positive false c h = h
-
-own-positive : (k : LinearPk) → Positive (ownNumber (sound k))
-own-positive k = on (volumesPass k) (λ (j : LinearPk). matrixFinite j)
-  where
-    rates : (b : Bool) → Positive (ownNumber (unless b 2 k))
-    rates true = tt
-    rates false = omega arith
-
-    on : (a : Bool) (b : LinearPk → Bool) → Positive (ownNumber (andThen (unless a 1 k) (λ j. unless (b j) 2 j)))
-    on true b = rates (b k)
-    on false b = omega arith
-
-module _ (k : LinearPk) (w : Window) (ss : List Float) (es : List Event) (a : List Float) (cells : Room) where
-  ahead-positive : Positive (firstRefusal (ownNumber (sound k)) (stateCount k) w ss es a cells)
-  unfolding firstRefusal prepare
-  ahead-positive =
-      first-positive (F.unless limits 5) (ownNumber (sound k)) (F.unless (amountsPass n a) 3) (prepare n w ss es)
-      (F.unless (roomFor (reckoned ss es) n cells) 4)
-      (unless-positive limits 5 (omega arith)) (own-positive k) (unless-positive (amountsPass n a) 3 (omega arith)) prepare-positive
-      (unless-positive (roomFor (reckoned ss es) n cells) 4 (omega arith))
-    where
-      n : ℕ
-      n = stateCount k
-
-      limits : Bool
-      limits = leb (length es) mostEvents && leb (length ss) mostSamples
-
-      prepare-positive : Positive (prepare n w ss es)
-      prepare-positive =
-          first-positive (F.unless (leb (length es) (w .events)) 13) (F.unless (windowPasses w) 10) (F.unless (all (within w) ss) 11)
-          (F.unless (eventsPass n w [] es) 12) (F.unless (leb (reckoned ss es * n) (w .outputs)) 14)
-          (unless-positive (leb (length es) (w .events)) 13 (omega arith)) (unless-positive (windowPasses w) 10 (omega arith))
-          (unless-positive (all (within w) ss) 11 (omega arith)) (unless-positive (eventsPass n w [] es) 12 (omega arith))
-          (unless-positive (leb (reckoned ss es * n) (w .outputs)) 14 (omega arith))
 
 -- ---- a text has bytes
 pub text-some : (sum : Float) (o : Result Outcome) → 1 ≤ length (outcomeText sum o)
@@ -175,7 +123,7 @@ module _ (k : LinearPk) (w a ss es : List ℕ) where
       on (some c) e =
           subst Kept (sym (simulate-refuses (propagatorOf k) (ownNumber (sound k)) n (sheetWindow w) (doublesOf ss) (eventsOf es)
           (doublesOf a) (roomOf R n) c e))
-          (refused-kept c (subst Positive e (ahead-positive k (sheetWindow w) (doublesOf ss) (eventsOf es) (doublesOf a) (roomOf R n))))
+          (refused-kept c (subst Positive e (ahead-positive k n (sheetWindow w) (doublesOf ss) (eventsOf es) (doublesOf a) (roomOf R n))))
 
   -- a report that tells it
   module _ {report : Report} (e : reported report ≡ reportOf (runWith k w a ss es)) where

@@ -1,6 +1,8 @@
 // The run of a sheet: its bytes in, the bytes of its printout out.
 use limits::EVENT_BYTES;
 use limits::READ_AMOUNTS;
+use limits::SHEET_ROWS;
+use limits::STATES;
 use linear_pk::LinearPk;
 use printout::PrintReply;
 use printout::print_refusal;
@@ -15,24 +17,27 @@ use rig_run_sheet::value_cells;
 use sheet_events::ordered;
 use simulation_report::RunReply;
 ghost use mathlib.Core.Path.{_≡_};
-ghost use mathlib.Core.Bool.{cond, true};
-ghost use Prim.Native.Nat.{_*_, _/_, _≤_};
+ghost use mathlib.Core.Bool.{cond};
+ghost use Prim.Native.Nat.{_*_, _/_};
 ghost use lib.Dec.{leb};
 ghost use lib.ListN.{length};
-ghost use Rattle.limits.specs.Limits.{mostCycleEvents, mostSamples, eventSize, readAmounts};
+ghost use Rattle.limits.specs.Limits.{readAmounts};
 ghost use Rattle.refusal.specs.Numbers.{replyNumber};
 ghost use Rattle.linear_pk.specs.LinearPk.{stateCount};
 ghost use Rattle.simulation_report.specs.Replies.{runReply};
 ghost use Rattle.events_layout.specs.Layout.{eventsOf};
-ghost use Rattle.sheet.specs.Sheet.{wordsOf, modelFits};
+ghost use Rattle.sheet.specs.Sheet.{wordsOf};
+ghost use Rattle.sheet.specs.Readable.{Readable};
 ghost use Rattle.printout.specs.Replies.{Prints};
 ghost use Rattle.sheet_events.specs.OrderedDoses.{ordered as orderedOf};
 ghost use Rattle.rig_run_sheet.specs.SheetRun.{runWith, reckonedOf};
 ghost use Rattle.rig_run_printout.specs.RunPrintout.{runPrintout};
-ghost use Rattle.refusal.specs.Result.{done};
 ghost use Rattle.printout.specs.Cells.{printed, printedLength};
 ghost use Rattle.printout.specs.Printouts.{numberInto};
-ghost use Rattle.rig_run_printout.specs.Rig.{runPrintoutOf, printoutOfBytes};
+ghost use Rattle.rig_run_printout.specs.Rig.{printoutOfBytes};
+
+// The most bytes of a printout: "rows", three digits and "ordered", and the most rows, each with the longer side.
+pub const RUN_BYTES: usize = 34 + SHEET_ROWS * (22 + 17 * STATES);
 
 // Whether a run reached its end, or its refusal.
 fn answer_of(run: RunReply) -> Reply
@@ -45,8 +50,8 @@ fn answer_of(run: RunReply) -> Reply
     }
 }
 
-// The printout of that run.
-fn print_bodies(
+// Runs a kernel and the other bodies in lent cells, and prints the run.
+fn run_cells(
     kernel: LinearPk,
     window: &[u8],
     amounts: &[u8],
@@ -59,7 +64,7 @@ fn print_bodies(
     values: &mut [f64],
     out: &mut [u8],
 ) -> PrintReply
-    requires { ⌜ (72 ≤ length (now window)) × (length (now events) / 8 / eventSize ≤ mostCycleEvents) × (length (now samples) / 8 ≤ mostSamples)
+    requires { ⌜ Readable (now window) (now samples) (now events)
         × (length (now initial) ≡ cond (leb (length (now amounts) / 8) readAmounts) (length (now amounts) / 8) readAmounts)
         × (length (now readings) ≡ length (now samples) / 8)
         × (length (now times) ≡ reckonedOf (wordsOf (now samples)) (wordsOf (now events)))
@@ -98,8 +103,8 @@ fn print_bodies(
     reply_of(answer_of(run), length)
 }
 
-// Cells for the run of a kernel and the other bodies.
-pub fn print_kernel(
+// The same in cells of its own, for the most that a sheet holds.
+pub fn run_bodies(
     kernel: LinearPk,
     window: &[u8],
     amounts: &[u8],
@@ -107,7 +112,7 @@ pub fn print_kernel(
     events: &[u8],
     out: &mut [u8],
 ) -> PrintReply
-    requires { ⌜ (72 ≤ length (now window)) × (length (now events) / 8 / eventSize ≤ mostCycleEvents) × (length (now samples) / 8 ≤ mostSamples) ⌝ }
+    requires { ⌜ Readable (now window) (now samples) (now events) ⌝ }
     ensures { λ r. ⌜ Prints (runPrintout (orderedOf (eventsOf (wordsOf (now (events .entry)))))
         (runWith kernel (wordsOf (now (window .entry))) (wordsOf (now (amounts .entry))) (wordsOf (now (samples .entry)))
         (wordsOf (now (events .entry))))) (now (out .entry)) r (now (out .exit)) ⌝ }
@@ -121,7 +126,7 @@ pub fn print_kernel(
     let mut times = time_cells();
     let mut sides = side_cells();
     let mut values = value_cells();
-    print_bodies(
+    run_cells(
         kernel,
         window,
         amounts,
@@ -136,53 +141,21 @@ pub fn print_kernel(
     )
 }
 
-// The printout of a sheet's bodies.
-fn print_sheet(
-    model: &[u8],
-    window: &[u8],
-    amounts: &[u8],
-    samples: &[u8],
-    events: &[u8],
-    out: &mut [u8],
-) -> PrintReply
-    requires { ⌜ (modelFits (wordsOf (now model)) ≡ true) × (72 ≤ length (now window))
-        × (length (now events) / 8 / eventSize ≤ mostCycleEvents) × (length (now samples) / 8 ≤ mostSamples) ⌝ }
-    ensures { λ r. ⌜ Prints (runPrintoutOf (done (record {
-      model = wordsOf (now (model .entry));
-      window = wordsOf
-          (now (window .entry));
-      amounts = wordsOf (now (amounts .entry));
-      samples = wordsOf (now (samples .entry));
-      events = wordsOf
-          (now (events .entry));
-    })))
-        (now (out .entry)) r (now (out .exit)) ⌝ }
-{
-    let made = sheet_kernel::kernel_of(model);
-    let reply = made.reply;
-    match reply {
-        Reply::Refused(refusal) => print_refusal(refusal, out),
-        Reply::Done => {
-            let kernel = made.kernel;
-            print_kernel(kernel, window, amounts, samples, events, out)
-        }
-    }
-}
-
 // The printout of a sheet, from the front of out. Where it has no room there nothing is written, and an answer is 4.
 pub fn run_sheet(bytes: &[u8], out: &mut [u8]) -> PrintReply
     ensures { λ r. ⌜ replyNumber (r .reply) ≡ numberInto (now (out .entry)) (printoutOfBytes (now (bytes .entry))) ⌝ }
     ensures { λ r. ⌜ r .length ≡ printedLength (printoutOfBytes (now (bytes .entry)) .text) (now (out .entry)) ⌝ }
     ensures { λ r. ⌜ now (out .exit) ≡ printed (printoutOfBytes (now (bytes .entry)) .text) (now (out .entry)) ⌝ }
 {
-    let read = sheet::read_sheet(bytes);
+    let read = sheet_kernel::read_kernel(bytes);
     let reply = read.reply;
     match reply {
-        Reply::Refused(unread) => print_refusal(unread, out),
+        Reply::Refused(refusal) => print_refusal(refusal, out),
         Reply::Done => {
+            let kernel = read.kernel;
             let places = read.places;
-            print_sheet(
-                sheet::body(bytes, places.model, places.window),
+            run_bodies(
+                kernel,
                 sheet::body(bytes, places.window, places.amounts),
                 sheet::body(bytes, places.amounts, places.samples),
                 sheet::body(bytes, places.samples, places.events),

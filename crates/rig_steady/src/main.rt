@@ -1,20 +1,24 @@
 // Reads a sheet on standard input to its end and writes the printout of its closed cycle.
-ghost use Prim.Native.Nat.{_≤_};
+use limits::SHEET_BYTES;
+use rig_steady_sheet::STEADY_BYTES;
+ghost use Prim.Native.Nat.{_+_};
 ghost use mathlib.Core.Path.{_≡_};
 ghost use lib.ListN.{length};
+ghost use Rattle.limits.specs.Limits.{sheetBytes};
+ghost use Rattle.rig_steady_sheet.specs.SteadySheet.{mostSteadyBytes};
 
 // Room for a sheet and one byte more: a longer file is as unfit as this much of it.
-fn input() -> [u8; 65537]
-    ensures { λ r. ⌜ 65537 ≡ length r ⌝ }
+fn input() -> [u8; SHEET_BYTES + 1]
+    ensures { λ r. ⌜ sheetBytes + 1 ≡ length r ⌝ }
 {
-    [0; 65537]
+    [0; SHEET_BYTES + 1]
 }
 
 // Room for any printout.
-fn output() -> [u8; 157]
-    ensures { λ r. ⌜ 157 ≡ length r ⌝ }
+fn output() -> [u8; STEADY_BYTES]
+    ensures { λ r. ⌜ mostSteadyBytes ≡ length r ⌝ }
 {
-    [0; 157]
+    [0; STEADY_BYTES]
 }
 
 // Solves the sheet's cycle and writes its printout; whether all of it was written.

@@ -24,7 +24,7 @@ use Rattle.cycle.specs.Closed.{Timed, SteadyState, SteadyReport, steadyReportOf
 use Rattle.periodic_acceptance.specs.Entry.{steadyEntry}
 use Rattle.sheet_kernel.specs.CycleTolerance.{toleranceOf}
 use Rattle.rig_steady_cycle.specs.SheetCycle.{steadyWith}
-use Rattle.rig_steady_cycle.specs.SteadyAnswer.{Told}
+use Rattle.periodic_acceptance.specs.Replies.{SteadyAnswer}
 
 module _ (k : LinearPk) (w ss es : List ℕ) where
   entry-is : (count samples : ℕ) → sound k ≡ done k → count ≡ eventCount es → count ≤ mostCycleEvents → samples ≡ length ss → samples ≤ mostSamples
@@ -43,7 +43,7 @@ module _ (k : LinearPk) (w ss es : List ℕ) where
       )
 
   -- the entry's answers are those of the cycle
-  pub entry-told : (amounts residual : List Float) → sound k ≡ done k
+  pub entry-answer : (amounts residual : List Float) → sound k ≡ done k
       → {readings : List Float} {list : List Event} {span : Window} {tolerance : SteadyStateTolerance} {count samples : ℕ}
       {r : SteadyReport} {amounts' residual' : List Float}
       → readings ≡ doublesFrom ss 0 samples → list ≡ tabulate mostEvents (eventOrNone es) → span ≡ sheetWindow w → tolerance ≡ toleranceOf w
@@ -54,9 +54,9 @@ module _ (k : LinearPk) (w ss es : List ℕ) where
       (leb (stateCount k) (length amounts) && leb (stateCount k) (length residual))) amounts
       → residual' ≡ answerAtExit (λ (s : SteadyState). s .residuals) (steadyEntry k span readings list count tolerance
       (leb (stateCount k) (length amounts) && leb (stateCount k) (length residual))) residual
-      → Told (steadyWith k w ss es) r amounts residual amounts' residual'
-  entry-told amounts residual h {readings} {list} {span} {tolerance} {count} {samples} {r} {amounts'} {residual'} q v p t c l s m a b x y z =
-      subst (λ (o : Timed SteadyState). Told o r amounts residual amounts' residual') same (record { reply = x; cells = y; beside = z })
+      → SteadyAnswer (steadyWith k w ss es) r amounts residual amounts' residual'
+  entry-answer amounts residual h {readings} {list} {span} {tolerance} {count} {samples} {r} {amounts'} {residual'} q v p t c l s m a b x y z =
+      subst (λ (o : Timed SteadyState). SteadyAnswer o r amounts residual amounts' residual') same (record { reply = x; amounts = y; residuals = z })
     where
       room : leb (stateCount k) (length amounts) && leb (stateCount k) (length residual) ≡ true
       room = rw (le-leb (stateCount k) (length amounts) (omega arith), le-leb (stateCount k) (length residual) (omega arith)) refl

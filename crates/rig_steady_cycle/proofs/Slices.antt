@@ -9,7 +9,7 @@ use lib.Ieee.{Float}
 use Rattle.cycle.specs.Closed.{Timed, stopped, got, SteadyState, SteadyReport, steadyReportOf, answerAtExit}
 use Rattle.printout_steady.specs.SteadyPrintout.{steadyText, steadyResult}
 use Rattle.printout_steady.specs.SteadyReplies.{steadyPrintout, steadyPrintoutOf}
-use Rattle.rig_steady_cycle.specs.SteadyAnswer.{Told}
+use Rattle.periodic_acceptance.specs.Replies.{SteadyAnswer}
 use Rattle.rig_steady_cycle.proofs.Kept.{Kept}
 
 kept-text : (n : ℕ) (o : Timed SteadyState) → Kept n o → (old old' : List Float)
@@ -18,8 +18,8 @@ kept-text : (n : ℕ) (o : Timed SteadyState) → Kept n o → (old old' : List 
 kept-text n (stopped c t) h old old' = rw (ne-eqb c 0 (λ e. omega arith))
 kept-text n (got s) h old old' = rw (take-at (s .amounts) _ n (h .amounts), take-at (s .residuals) _ n (h .residuals)) refl
 
-pub told-printout : (n : ℕ) (o : Timed SteadyState) → Kept n o → {r : SteadyReport} {a a' b b' : List Float} → Told o r a b a' b' → {m : ℕ}
+pub answer-printout : (n : ℕ) (o : Timed SteadyState) → Kept n o → {r : SteadyReport} {a a' b b' : List Float} → SteadyAnswer o r a b a' b' → {m : ℕ}
     → m ≡ n → steadyPrintoutOf r m a' b' ≡ steadyPrintout o
-told-printout n o h {r} {a} {a'} {b} {b'} t {m} e =
-    rw (e, t .reply, t .cells, t .beside) (ap (λ (x : Timed SteadyState). record { number = steadyReportOf o .number; text = steadyText x })
+answer-printout n o h {r} {a} {a'} {b} {b'} t {m} e =
+    rw (e, t .reply, t .amounts, t .residuals) (ap (λ (x : Timed SteadyState). record { number = steadyReportOf o .number; text = steadyText x })
     (kept-text n o h a b))

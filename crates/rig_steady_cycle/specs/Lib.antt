@@ -1,2 +1,1 @@
 pub mod SheetCycle
-pub mod SteadyAnswer

@@ -8,15 +8,15 @@ use printout_steady::print_reply;
 use rig_run_sheet::sample_cells;
 use sheet_kernel::tolerance_of;
 ghost use mathlib.Core.Path.{_≡_};
-ghost use Prim.Native.Nat.{_/_, _≤_};
+ghost use Prim.Native.Nat.{_/_};
 ghost use lib.ListN.{length};
-ghost use Rattle.limits.specs.Limits.{mostCycleEvents, mostSamples, eventSize};
 ghost use Rattle.refusal.specs.Result.{done};
 ghost use Rattle.linear_pk.specs.LinearPk.{sound, stateCount};
 ghost use Rattle.periodic_acceptance.specs.Entry.{steadyReply};
 ghost use Rattle.sheet.specs.Sheet.{wordsOf};
+ghost use Rattle.sheet.specs.Readable.{Readable};
 ghost use Rattle.rig_steady_cycle.specs.SheetCycle.{steadyWith};
-ghost use Rattle.rig_steady_cycle.specs.SteadyAnswer.{Told};
+ghost use Rattle.periodic_acceptance.specs.Replies.{SteadyAnswer};
 ghost use Rattle.printout.specs.Replies.{Prints};
 ghost use Rattle.printout_steady.specs.SteadyReplies.{steadyPrintout};
 
@@ -30,10 +30,9 @@ pub fn solve_bodies(
     amounts: &mut [f64],
     residual: &mut [f64],
 ) -> SteadyReply
-    requires { ⌜ (sound kernel ≡ done kernel) × (72 ≤ length (now window)) × (length (now events) / 8 / eventSize ≤ mostCycleEvents)
-        × (length (now samples) / 8 ≤ mostSamples)
+    requires { ⌜ (sound kernel ≡ done kernel) × Readable (now window) (now samples) (now events)
         × (length (now readings) ≡ length (now samples) / 8) × (length (now amounts) ≡ stateCount kernel) × (length (now residual) ≡ stateCount kernel) ⌝ }
-    ensures { λ r. ⌜ Told (steadyWith kernel (wordsOf (now (window .entry))) (wordsOf (now (samples .entry))) (wordsOf (now (events .entry))))
+    ensures { λ r. ⌜ SteadyAnswer (steadyWith kernel (wordsOf (now (window .entry))) (wordsOf (now (samples .entry))) (wordsOf (now (events .entry))))
         (steadyReply r) (now (amounts .entry)) (now (residual .entry)) (now (amounts .exit)) (now (residual .exit)) ⌝ }
 {
     sheet_values::doubles(samples, 0, readings);
@@ -53,8 +52,8 @@ pub fn solve_bodies(
     )
 }
 
-// The printout of a kernel's closed cycle, over slices of as many cells as it has states.
-fn print_bodies(
+// Solves the cycle of a kernel and the other bodies in lent cells, as many as it has states, and prints the answer.
+fn steady_cells(
     kernel: LinearPk,
     window: &[u8],
     samples: &[u8],
@@ -64,8 +63,7 @@ fn print_bodies(
     residual: &mut [f64],
     out: &mut [u8],
 ) -> PrintReply
-    requires { ⌜ (sound kernel ≡ done kernel) × (72 ≤ length (now window)) × (length (now events) / 8 / eventSize ≤ mostCycleEvents)
-        × (length (now samples) / 8 ≤ mostSamples)
+    requires { ⌜ (sound kernel ≡ done kernel) × Readable (now window) (now samples) (now events)
         × (length (now readings) ≡ length (now samples) / 8) × (length (now amounts) ≡ stateCount kernel) × (length (now residual) ≡ stateCount kernel) ⌝ }
     ensures { λ r. ⌜ Prints (steadyPrintout (steadyWith kernel (wordsOf (now (window .entry))) (wordsOf (now (samples .entry)))
         (wordsOf (now (events .entry)))))
@@ -76,16 +74,15 @@ fn print_bodies(
     print_reply(reply, n, amounts, residual, out)
 }
 
-// Cells for the closed cycle of a kernel and the other bodies.
-pub fn print_kernel(
+// The same in cells of its own.
+pub fn steady_bodies(
     kernel: LinearPk,
     window: &[u8],
     samples: &[u8],
     events: &[u8],
     out: &mut [u8],
 ) -> PrintReply
-    requires { ⌜ (sound kernel ≡ done kernel) × (72 ≤ length (now window)) × (length (now events) / 8 / eventSize ≤ mostCycleEvents)
-        × (length (now samples) / 8 ≤ mostSamples) ⌝ }
+    requires { ⌜ (sound kernel ≡ done kernel) × Readable (now window) (now samples) (now events) ⌝ }
     ensures { λ r. ⌜ Prints (steadyPrintout (steadyWith kernel (wordsOf (now (window .entry))) (wordsOf (now (samples .entry)))
         (wordsOf (now (events .entry)))))
         (now (out .entry)) r (now (out .exit)) ⌝ }
@@ -95,7 +92,7 @@ pub fn print_kernel(
     let mut readings = sample_cells();
     let mut amounts = [0.0f64; STATES];
     let mut residual = [0.0f64; STATES];
-    print_bodies(
+    steady_cells(
         kernel,
         window,
         samples,

@@ -1,3 +1,1 @@
-pub mod Kernels
-pub mod Sheets
 pub mod Most

@@ -1,6 +1,6 @@
 -- The most bytes of a printout.
 use mathlib.Core.Path.{_≡_, refl, sym, subst}
-use Prim.Native.Nat.{ℕ, _+_, _*_, _≤_}
+use Prim.Native.Nat.{ℕ, _≤_}
 use native.Mathlib.Omega.{arith}
 use lib.ListN.{length}
 use lib.Seq.{take-all}
@@ -16,14 +16,14 @@ use Rattle.printout.specs.Printout.{refusedText}
 use Rattle.printout.proofs.Lengths.{places-most, refused-text-length}
 use Rattle.cycle.specs.Closed.{Timed, stopped, got, then, untimed, SteadyState}
 use Rattle.rig_run_sheet.proofs.Amounts.{few-states}
-use Rattle.printout_steady.specs.SteadyPrintout.{solvedText, steadyText}
+use Rattle.printout_steady.specs.SteadyPrintout.{solvedText, steadyText, solvedLength}
 use Rattle.printout_steady.proofs.Lines.{solved-length}
 use Rattle.printout_steady.specs.SteadyReplies.{steadyPrintout}
 use Rattle.rig_steady_cycle.specs.SheetCycle.{steadyWith}
 use Rattle.rig_steady_cycle.proofs.Kept.{Kept, steady-kept}
 use Rattle.rig_steady_sheet.specs.SteadySheet.{steadySheet, steadyOfBytes, mostSteadyBytes, EverySteadyPrintoutFits}
-use Rattle.rig_steady_sheet.proofs.Kernels.{model-sound}
-use Rattle.rig_steady_sheet.proofs.Sheets.{sheet-refused, sheet-runs}
+use Rattle.sheet_kernel.proofs.Kernels.{model-sound}
+use Rattle.sheet_kernel.proofs.Cycles.{sheet-refused, sheet-runs}
 
 refusal-most : (c : ℕ) (t : Float) → length (refusedText c t) ≤ mostSteadyBytes
 refusal-most c t = omega (arith, refused-text-length c t, places-most 19 c)
@@ -34,7 +34,7 @@ kept-most n (stopped c t) l h = refusal-most c t
 kept-most n (got s) l h =
     let a : n ≤ length (s .amounts) = omega (arith, h .amounts) in
     let b : n ≤ length (s .residuals) = omega (arith, h .residuals) in
-    let e : length (solvedText s) ≡ 34 * n + 21 = rw (
+    let e : length (solvedText s) ≡ solvedLength n = rw (
       take-all n (s .amounts) (omega (arith, h .amounts)),
       take-all n (s .residuals) (omega (arith, h .residuals)),
     ) at (solved-length n (s .maximum) (s .amounts) (s .residuals) a b) in

@@ -2,11 +2,13 @@
 use mathlib.Core.List.{List}
 use Prim.Native.Nat.{ℕ, _≤_}
 use lib.ListN.{length}
+use Rattle.limits.specs.Limits.{states}
 use Rattle.linear_pk.specs.declared.kernel.LinearPk.{LinearPk}
 use Rattle.cycle.specs.Closed.{Timed, then, untimed, SteadyState}
 use Rattle.sheet.specs.Sheet.{Sheet, readSheet}
 use Rattle.sheet_kernel.specs.Values.{modelOf}
 use Rattle.printout.specs.Printouts.{Printout}
+use Rattle.printout_steady.specs.SteadyPrintout.{solvedLength}
 use Rattle.printout_steady.specs.SteadyReplies.{steadyPrintout}
 use Rattle.rig_steady_cycle.specs.SheetCycle.{steadyWith}
 
@@ -25,9 +27,9 @@ steadyOfBytes bs = then (untimed (readSheet bs)) steadySheet
 abbrev pub steadyPrintoutOfBytes : List ℕ → Printout
 steadyPrintoutOfBytes bs = steadyPrintout (steadyOfBytes bs)
 
--- ---- room for the printout of any sheet: four states
+-- ---- room for the printout of any sheet: the most states
 abbrev pub mostSteadyBytes : ℕ
-mostSteadyBytes = 157
+mostSteadyBytes = solvedLength states
 
 abbrev pub EverySteadyPrintoutFits : Type 0
 EverySteadyPrintoutFits = (bs : List ℕ) → length (steadyPrintoutOfBytes bs .text) ≤ mostSteadyBytes

@@ -19,7 +19,7 @@ use Rattle.protocol.specs.PlainRun.{rowsLeft}
 use Rattle.protocol.proofs.Frame.{outBehind, run-parts}
 use Rattle.protocol.proofs.RowCounts.{total-append, rows-most}
 use Rattle.rows.specs.Written.{Cells, written}
-use Rattle.refusal.specs.declared.Reply.the-variants.{Done}
+use Rattle.rows.specs.Onward.{fresh}
 use Rattle.rows.specs.Standing.{Standing, isRefused, standing, behindOf, after, Ran, Fits}
 use Rattle.rows.specs.declared.Progress.{Progress}
 use Rattle.rows.proofs.Puts.{written-append, Same, written-same, room-less}
@@ -153,11 +153,8 @@ fits-first {n} {start} xs ys {c} f = record {
 }
 
 -- ---- what a start says of a stop does not matter
-abbrev pub fresh : Progress → Progress
-fresh p = record { reply = Done; time = plusZero; amounts = p .amounts; left = p .left; made = p .made; rows = p .rows }
-
-pub fits-fresh : {n : ℕ} {start : Progress} {xs : List Step} {c : Cells} → Fits n start xs c → Fits n (fresh start) xs c
-fits-fresh f = record { states = f .states; room = f .room; few = f .few }
+pub fits-fresh : {n : ℕ} (start : Progress) {p : Progress} {xs : List Step} {c : Cells} → p ≡ fresh start → Fits n start xs c → Fits n p xs c
+fits-fresh start e f = rw e (record { states = f .states; room = f .room; few = f .few })
 
 pub fits-afresh : {n : ℕ} (start : Progress) {xs : List Step} {c : Cells} → Fits n (fresh start) xs c → Fits n start xs c
 fits-afresh start f = record { states = f .states; room = f .room; few = f .few }
@@ -172,13 +169,12 @@ module _ {advance : Propagator} {n : ℕ} where
   ran-same {start} {p} {xs} {old} {c} h = subst (λ (x : Cells). Same old x) (sym (h .cells))
       (written-same n (start .rows) (after advance (standing n start) xs .1) old)
 
-  pub ran-fresh : {start p : Progress} {xs : List Step} {old c : Cells} → Ran advance n (fresh start) xs old p c → Ran advance n start xs old p c
+  pub ran-fresh :
+      (start : Progress) {p q : Progress} {xs : List Step} {old c : Cells} → p ≡ fresh start → Ran advance n p xs old q c → Ran advance n start xs old q c
   unfolding after
-  ran-fresh {start} {p} {xs} h = record {
-    progress = h .progress
-        ∙ behind-fresh n start (run advance (start .left) (begin (take n (start .amounts))) xs);
-    cells = h .cells;
-  }
+  ran-fresh start {xs = xs} e h =
+      let g = rw e at h in
+      record { progress = g .progress ∙ behind-fresh n start (run advance (start .left) (begin (take n (start .amounts))) xs); cells = g .cells }
 
   pub ran-afresh : {start p : Progress} {xs : List Step} {old c : Cells} → Ran advance n start xs old p c → Ran advance n (fresh start) xs old p c
   unfolding after

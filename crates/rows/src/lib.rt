@@ -9,7 +9,8 @@ ghost use Prim.Native.Nat.{ℕ, _+_, _*_, _≤_, _<_};
 ghost use lib.ListN.{length, take, drop};
 ghost use Rattle.limits.specs.Limits.{states};
 ghost use Rattle.protocol.specs.Schedule.{arrive as arrives};
-ghost use Rattle.rows.specs.Written.{Cells, put};
+ghost use Rattle.rows.specs.Written.{Cells, cells, put, RoomForRows};
+ghost use Rattle.rows.specs.Onward.{goesOnWith, fresh, stopsWith, pastRow, pastAdvance};
 ghost use Rattle.rows.specs.Standing.{isRefused, kernelAdvance, movedOf, Ran};
 ghost use Rattle.binary64.specs.Doubles.{plusZero};
 ghost use Rattle.protocol.specs.Entry.{frontThenZeros};
@@ -36,6 +37,76 @@ impl Progress {
             Reply::Refused(_) => true,
         }
     }
+
+    // On with other amounts.
+    pub fn with_amounts(self, amounts: [f64; STATES]) -> Progress
+        ensures { λ r. ⌜ r ≡ goesOnWith self amounts ⌝ }
+    {
+        Progress {
+            reply: Reply::Done,
+            time: 0.0,
+            amounts: amounts,
+            left: self.left,
+            made: self.made,
+            rows: self.rows,
+        }
+    }
+
+    // On from here, whatever stopped before.
+    pub fn resumed(self) -> Progress
+        ensures { λ r. ⌜ r ≡ fresh self ⌝ }
+    {
+        let amounts = self.amounts;
+        self.with_amounts(amounts)
+    }
+
+    // Stopped here by a refusal, told at a time.
+    pub fn stopped_by(self, refusal: Refusal, time: f64) -> Progress
+        ensures { λ r. ⌜ r ≡ stopsWith self refusal time ⌝ }
+    {
+        let amounts = self.amounts;
+        Progress {
+            reply: Reply::Refused(refusal),
+            time: time,
+            amounts: amounts,
+            left: self.left,
+            made: self.made,
+            rows: self.rows,
+        }
+    }
+
+    // On behind one more row, where their count can rise.
+    fn past_row(self) -> Progress
+        requires { ⌜ self .rows < 18446744073709551615 ⌝ }
+        ensures { λ r. ⌜ r ≡ pastRow self ⌝ }
+    {
+        let amounts = self.amounts;
+        Progress {
+            reply: Reply::Done,
+            time: 0.0,
+            amounts: amounts,
+            left: self.left,
+            made: self.made,
+            rows: self.rows + 1,
+        }
+    }
+
+    // On with one more advance made; a budget at 0 stays there.
+    fn past_advance(self) -> Progress
+        requires { ⌜ self .made < 4294967296 ⌝ }
+        ensures { λ r. ⌜ r ≡ pastAdvance self ⌝ }
+    {
+        let amounts = self.amounts;
+        let left = self.left;
+        Progress {
+            reply: Reply::Done,
+            time: 0.0,
+            amounts: amounts,
+            left: if left == 0 { 0 } else { left - 1 },
+            made: self.made + 1,
+            rows: self.rows,
+        }
+    }
 }
 
 // What the kernel's advance gives: amounts, or a refusal.
@@ -57,7 +128,7 @@ fn row_writer(amounts: &[f64], part: &mut [f64])
 }
 
 // A row into the three slices: its time and its side's code at place row, its n amounts from place row × n on.
-pub fn put_row(
+fn put_row(
     times: &mut [f64],
     sides: &mut [u8],
     values: &mut [f64],
@@ -78,8 +149,29 @@ pub fn put_row(
     row_writer(state, &mut values[at..]);
 }
 
+// A row at t behind those written.
+pub fn write_row(
+    n: usize,
+    t: f64,
+    side: u8,
+    start: Progress,
+    times: &mut [f64],
+    sides: &mut [u8],
+    values: &mut [f64],
+) -> Progress
+    requires { ⌜ (n ≤ states) × RoomForRows n (start .rows + 1) (cells (now times) (now sides) (now values)) ⌝ }
+    ensures { λ r. ⌜ (r ≡ pastRow start) × (now (times .exit) ≡ put (start .rows) (t ∷ []) (now (times .entry)))
+        × (now (sides .exit) ≡ put (start .rows) (side ∷ []) (now (sides .entry)))
+        × (now (values .exit) ≡ put (start .rows * n) (take n (start .amounts)) (now (values .entry))) ⌝ }
+{
+    let amounts = start.amounts;
+    let row = start.rows;
+    put_row(times, sides, values, row, n, t, side, amounts);
+    start.past_row()
+}
+
 // The kernel's advance over n states.
-pub fn propagate(
+fn propagate(
     kernel: LinearPk,
     n: usize,
     amounts: [f64; STATES],
@@ -99,7 +191,7 @@ pub fn propagate(
     }
 }
 
-// The advance from the boundary t to the next boundary u.
+// The advance from the boundary t to the time u, the next boundary's or a reading's: 30 where the budget is spent, or the kernel's refusal.
 pub fn arrive(
     kernel: LinearPk,
     n: usize,
@@ -111,41 +203,18 @@ pub fn arrive(
     requires { ⌜ (n ≤ states) × (start .made < 4294967296) ⌝ }
     ensures { λ r. ⌜ ((c : Cells) → Ran (kernelAdvance kernel n) n start (arrives t (take n rates) u ∷ []) c r c) ⌝ }
 {
-    let amounts = start.amounts;
-    let left = start.left;
-    let made = start.made + 1;
-    let row = start.rows;
-    if left == 0 {
-        return Progress {
-            reply: Reply::Refused(Refusal::PropagationBudget),
-            time: u,
-            amounts: amounts,
-            left: 0,
-            made: made,
-            rows: row,
-        };
+    let next = start.past_advance();
+    if start.left == 0 {
+        return next.stopped_by(Refusal::PropagationBudget, u);
     }
+    let amounts = start.amounts;
     let m = propagate(kernel, n, amounts, rates, u - t);
     let reply = m.reply;
     match reply {
-        Reply::Refused(refusal) => Progress {
-            reply: Reply::Refused(refusal),
-            time: u,
-            amounts: amounts,
-            left: left - 1,
-            made: made,
-            rows: row,
-        },
+        Reply::Refused(refusal) => next.stopped_by(refusal, u),
         Reply::Done => {
             let reached = m.amounts;
-            Progress {
-                reply: Reply::Done,
-                time: 0.0,
-                amounts: reached,
-                left: left - 1,
-                made: made,
-                rows: row,
-            }
+            next.with_amounts(reached)
         }
     }
 }

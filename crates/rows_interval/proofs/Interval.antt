@@ -9,20 +9,20 @@ use lib.Ieee.Scale.{finite}
 use Rattle.binary64.specs.Doubles.{plusZero}
 use Rattle.binary64.specs.Lists.{all}
 use Rattle.refusal.specs.declared.Refusal.the-variants as R
-use Rattle.refusal.specs.declared.Reply.the-variants.{Refused}
 use Rattle.protocol.specs.Events.{inside}
 use Rattle.protocol.specs.Schedule.{rates, reading, arrive, onInterval}
 use Rattle.protocol.specs.Execute.{Propagator}
 use Rattle.rows.specs.Written.{Cells}
+use Rattle.rows.specs.Onward.{fresh, stopsWith}
 use Rattle.rows.specs.Standing.{isRefused, Ran, Fits}
 use Rattle.rows.specs.declared.Progress.{Progress}
-use Rattle.rows.proofs.Parts.{fresh, fits-first, fits-then, fits-afresh, ran-stops, ran-then, ran-afresh}
+use Rattle.rows.proofs.Parts.{fits-first, fits-then, fits-afresh, ran-stops, ran-then, ran-afresh}
 use Rattle.rows.proofs.Steps.{rates-refused, rates-pass}
 
 module _ (advance : Propagator) (n : ℕ) (start : Progress) (t : Float) (r : List Float) (u : Float) (ss : List Float) (c : Cells) where
   pub interval-refused :
       all finite r ≡ false
-      → Ran advance n start (onInterval t r u ss) c (record { reply = Refused R.SummedRates; time = plusZero; amounts = start .amounts; left = start .left; made = start .made; rows = start .rows }) c
+      → Ran advance n start (onInterval t r u ss) c (stopsWith start R.SummedRates plusZero) c
   unfolding onInterval
   interval-refused e = ran-stops (map (reading t r) (inside t u ss) ++ (arrive t r u ∷ [])) (rates-refused start c r e) refl
 

@@ -13,9 +13,10 @@ use Rattle.protocol.specs.Events.{inside}
 use Rattle.protocol.specs.Schedule.{Step, reading}
 use Rattle.protocol.specs.Execute.{Propagator}
 use Rattle.rows.specs.Written.{Cells}
+use Rattle.rows.specs.Onward.{fresh}
 use Rattle.rows.specs.Standing.{isRefused, Ran, Fits}
 use Rattle.rows.specs.declared.Progress.{Progress}
-use Rattle.rows.proofs.Parts.{fresh, ran-nothing, ran-then, ran-stops, fits-first, fits-then}
+use Rattle.rows.proofs.Parts.{ran-nothing, ran-then, ran-stops, fits-first, fits-then}
 
 filter-append : {A : Type 0} (p : A → Bool) (xs ys : List A) → filter p (xs ++ ys) ≡ filter p xs ++ filter p ys
 filter-append p [] ys = refl
@@ -66,8 +67,8 @@ pub record Through (advance : Propagator) (n : ℕ) (start : Progress) (t : Floa
   pub ran : Ran advance n start (readsTo t r u ss k) old p c
 
 module _ {advance : Propagator} {n : ℕ} {t : Float} {r : List Float} {u : Float} {ss : List Float} {old : Cells} where
-  pub through-none : (start : Progress) → Through advance n (fresh start) t r u ss old (fresh start) 0 old
-  through-none start = record { below = omega arith; going = refl; ran = ran-nothing (fresh start) old }
+  pub through-none : (start : Progress) {p : Progress} → p ≡ fresh start → Through advance n p t r u ss old p 0 old
+  through-none start e = rw e (record { below = omega arith; going = refl; ran = ran-nothing (fresh start) old })
 
   module _ {start p : Progress} {k : ℕ} {c : Cells} (h : Through advance n start t r u ss old p k c) where
     pub through-all : length ss ≤ k → Ran advance n start (map (reading t r) (inside t u ss)) old p c

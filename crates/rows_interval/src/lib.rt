@@ -3,7 +3,6 @@ use binary64::Test;
 use limits::STATES;
 use linear_pk::LinearPk;
 use refusal::Refusal;
-use refusal::Reply;
 use rows::Progress;
 ghost use mathlib.Core.List.{[], _∷_, map};
 ghost use lib.ListN.{take};
@@ -33,43 +32,12 @@ pub fn read(
         r (cells (now (times .exit)) (now (sides .exit)) (now (values .exit))) ⌝ }
 {
     let amounts = start.amounts;
-    let left = start.left;
-    let made = start.made + 1;
-    let row = start.rows;
-    if left == 0 {
-        return Progress {
-            reply: Reply::Refused(Refusal::PropagationBudget),
-            time: s,
-            amounts: amounts,
-            left: 0,
-            made: made,
-            rows: row,
-        };
+    let p = rows::arrive(kernel, n, t, rates, s, start);
+    if p.stopped() {
+        return p;
     }
-    let m = rows::propagate(kernel, n, amounts, rates, s - t);
-    let reply = m.reply;
-    match reply {
-        Reply::Refused(refusal) => Progress {
-            reply: Reply::Refused(refusal),
-            time: s,
-            amounts: amounts,
-            left: left - 1,
-            made: made,
-            rows: row,
-        },
-        Reply::Done => {
-            let reached = m.amounts;
-            rows::put_row(times, sides, values, row, n, s, 2, reached);
-            Progress {
-                reply: Reply::Done,
-                time: 0.0,
-                amounts: amounts,
-                left: left - 1,
-                made: made,
-                rows: row + 1,
-            }
-        }
-    }
+    let q = rows::write_row(n, s, 2, p, times, sides, values);
+    q.with_amounts(amounts)
 }
 
 // The readings strictly inside from t to u, each from the amounts at t.
@@ -89,15 +57,7 @@ fn read_all(
     ensures { λ r. ⌜ Ran (kernelAdvance kernel n) n start (map (reading t (take n rates)) (inside t u (now (samples .entry))))
         (cells (now (times .entry)) (now (sides .entry)) (now (values .entry))) r (cells (now (times .exit)) (now (sides .exit)) (now (values .exit))) ⌝ }
 {
-    let amounts = start.amounts;
-    let mut p = Progress {
-        reply: Reply::Done,
-        time: 0.0,
-        amounts: amounts,
-        left: start.left,
-        made: start.made,
-        rows: start.rows,
-    };
+    let mut p = start.resumed();
     let mut k = 0usize;
     while k < samples.len() {
         let s = samples[k];
@@ -140,15 +100,7 @@ pub fn on_interval(
 {
     let summed = &rates[..n];
     if !all_finite(summed) {
-        let amounts = start.amounts;
-        return Progress {
-            reply: Reply::Refused(Refusal::SummedRates),
-            time: 0.0,
-            amounts: amounts,
-            left: start.left,
-            made: start.made,
-            rows: start.rows,
-        };
+        return start.stopped_by(Refusal::SummedRates, 0.0);
     }
     let p = read_all(kernel, n, t, rates, u, samples, start, times, sides, values);
     if p.stopped() {

@@ -1,3 +1,4 @@
 pub mod Model
 pub mod Sheet
 pub mod Reader
+pub mod Readable

@@ -9,8 +9,8 @@ use refusal::Refusal;
 use refusal::Reply;
 use sheet_words::Places;
 ghost use mathlib.Core.Path.{_≡_};
-ghost use Prim.Native.Nat.{_+_, _*_, _≤_, _-_};
-ghost use lib.ListN.{length, take, drop};
+ghost use Prim.Native.Nat.{_+_, _*_, _≤_};
+ghost use lib.ListN.{length};
 ghost use Rattle.limits.specs.Limits.{eventBytes};
 ghost use Rattle.events_layout.specs.Layout.{eventFits, eventsFit};
 ghost use Rattle.sheet_words.specs.Words.{wordsOf};
@@ -18,7 +18,7 @@ ghost use Rattle.sheet.specs.Model.{modelFits};
 ghost use Rattle.refusal.specs.Numbers.{refusalNumber, replyNumber};
 ghost use Rattle.refusal.specs.Result.{number};
 ghost use Rattle.sheet.specs.Sheet.{sheetOf, bodiesFit, readSheet};
-ghost use Rattle.sheet.specs.Reader.{noPlaces, placesRead, Located};
+ghost use Rattle.sheet.specs.Reader.{noPlaces, placesRead, Located, Between};
 
 // The words of the window.
 const WINDOW: usize = 9;
@@ -88,7 +88,7 @@ fn refused(refusal: Refusal) -> Read
 // A body as its own part of the file: from its first byte to its end.
 pub fn body(bytes: &[u8], first: usize, end: usize) -> &[u8]
     requires { ⌜ (first ≤ end) × (8 * end ≤ length (now bytes)) ⌝ }
-    ensures { λ r. ⌜ wordsOf (now r) ≡ take (end - first) (drop first (wordsOf (now (bytes .entry)))) ⌝ }
+    ensures { λ r. ⌜ Between (now (bytes .entry)) first end (now r) ⌝ }
 {
     &bytes[8 * first..8 * end]
 }

@@ -1,1 +1,4 @@
 pub mod Models
+pub mod Bodies
+pub mod Kernels
+pub mod Cycles

@@ -1,9 +1,11 @@
-// The kernel of a sheet's model, and the tolerance of its closed cycle.
+// The reader of a sheet and of its kernel, and the tolerance of its closed cycle.
 use cycle::SteadyStateTolerance;
 use limits::VOLUMES;
 use linear_pk::LinearPk;
 use linear_pk::Made;
 use linear_pk_values::Absorption;
+use refusal::Reply;
+use sheet_words::Places;
 ghost use mathlib.Core.Path.{_≡_};
 ghost use mathlib.Core.Bool.{true};
 ghost use Prim.Native.Nat.{_+_, _-_, _*_, _≤_};
@@ -14,6 +16,7 @@ ghost use Rattle.refusal.specs.Result.{valueOr};
 ghost use Rattle.sheet_words.specs.Words.{wordsOf, word};
 ghost use Rattle.sheet.specs.Model.{modelFits};
 ghost use Rattle.sheet_kernel.specs.Values.{modelAbsorption, modelOf};
+ghost use Rattle.sheet_kernel.specs.Read.{Reads};
 ghost use Rattle.sheet_kernel.specs.CycleTolerance.{toleranceOf};
 
 fn absorption_of(part: &[u8]) -> Absorption
@@ -55,6 +58,42 @@ pub fn kernel_of(part: &[u8]) -> Made
     let mut volumes = [0.0f64; VOLUMES];
     let mut exchange = [0.0f64; VOLUMES - 1];
     kernel_from(part, &mut volumes[..count], &mut exchange[..count - 1])
+}
+
+// Done, or 40, 5, 1 or 2; with the kernel of the model, and the places of the bodies.
+pub struct SheetKernel {
+    pub reply: Reply,
+    pub kernel: LinearPk,
+    pub places: Places,
+}
+
+// A sheet, and the kernel of its model.
+pub fn read_kernel(bytes: &[u8]) -> SheetKernel
+    ensures { λ r. ⌜ Reads (now (bytes .entry)) r ⌝ }
+{
+    let read = sheet::read_sheet(bytes);
+    let places = read.places;
+    let answer = read.reply;
+    match answer {
+        Reply::Refused(refusal) => {
+            let kernel = linear_pk::none();
+            SheetKernel {
+                reply: Reply::Refused(refusal),
+                kernel,
+                places,
+            }
+        }
+        Reply::Done => {
+            let made = kernel_of(sheet::body(bytes, places.model, places.window));
+            let kernel = made.kernel;
+            let reply = made.reply;
+            SheetKernel {
+                reply,
+                kernel,
+                places,
+            }
+        }
+    }
 }
 
 // The last two words of the window.

@@ -1,4 +1,4 @@
--- The tests firstRefusal of a run, as the entry makes them one after the other.
+-- The tests ahead of a run, as the entry makes them one after the other.
 use mathlib.Core.Path.{_≡_, refl, sym, ap, ap₂, _∙_, subst}
 use mathlib.Core.Bool.{Bool, true, false, _&&_}
 use mathlib.Core.List.{List, [], _∷_}

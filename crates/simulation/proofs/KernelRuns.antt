@@ -21,7 +21,7 @@ use Rattle.matrix.proofs.Filled.{tabulate-length}
 use Rattle.linear_pk_interval.specs.Interval.{propagator, amountTo, propagated, over, interval}
 use Rattle.linear_pk.specs.LinearPk.{stateCount, sound, advance}
 use Rattle.linear_pk.specs.declared.kernel.LinearPk.{LinearPk}
-use Rattle.protocol.specs.PlainRun.{oneOf, argumentsPass}
+use Rattle.protocol.specs.PlainRun.{advanceNumbers, oneOf, argumentsPass}
 use Rattle.protocol.proofs.Theorems.{plain-run}
 use Rattle.simulation.specs.KernelRun.{blockOf, normOf, halvedNorm, above, TakesHalvings, resultsPass, Refusal, norm-fails}
 use Rattle.simulation.specs.KernelRun.{halvings-fail, results-fail, EveryInterval, propagatorOf, refusalOf, EveryKernel}
@@ -231,7 +231,7 @@ every-interval s n k a r d h c = (to s n k a r d h c, fro s n k a r d h c)
 
 -- ---- the numbers of the arithmetic
 abbrev arithmetic : List ℕ
-arithmetic = 20 ∷ 21 ∷ 22 ∷ []
+arithmetic = advanceNumbers
 
 refusal-number : {s : Scheme} {n : ℕ} {k a r : List Float} {d : Float} {c : ℕ} → Refusal s n k a r d c → T (oneOf c arithmetic)
 refusal-number (norm-fails h) = tt

@@ -1,4 +1,4 @@
--- A whole run that no test firstRefusal refuses: what it leaves is what `simulate` says.
+-- A whole run that no test ahead refuses: what it leaves is what `simulate` says.
 use mathlib.Core.Path.{_≡_, refl, sym, ap, ap₂, _∙_, subst}
 use mathlib.Core.Bool.{Bool, true, false, cond, not}
 use mathlib.Core.List.{List, [], _∷_, _++_, append-assoc}
@@ -45,7 +45,7 @@ use Rattle.simulation_report.specs.Replies.{room, runReply}
 use Rattle.simulation_report.specs.declared.RunReply.the-variants.{Stopped, Reached}
 use Rattle.simulation.proofs.KernelRuns.{kernel-run}
 
--- ---- what holds where no test firstRefusal refuses
+-- ---- what holds where no test ahead refuses
 pub own-none : (k : LinearPk) → ownNumber (sound k) ≡ none → sound k ≡ done k
 own-none k = on (volumesPass k) (λ (j : LinearPk). matrixFinite j)
   where
@@ -64,7 +64,7 @@ own-none k = on (volumesPass k) (λ (j : LinearPk). matrixFinite j)
     on true b h = rates (b k) h
     on false b h = some-none h
 
--- zeros over what was frontThenZeros
+-- zeros over what was laid
 laid-over : {A : Type 0} (z : A) (k : ℕ) (xs old : List A) → length xs ≤ k → frontThenZeros z k [] (frontThenZeros z k xs old) ≡ frontThenZeros z k [] old
 laid-over z k xs old h =
     ap (λ (l : List _). replicate (k - 0) z ++ l)

@@ -13,9 +13,10 @@ use Rattle.protocol.specs.Schedule.{Step, summed, marked, atBoundary, onInterva
 use Rattle.protocol.specs.Execute.{Propagator}
 use Rattle.protocol.specs.declared.Event.{Event}
 use Rattle.rows.specs.Written.{Cells}
+use Rattle.rows.specs.Onward.{fresh}
 use Rattle.rows.specs.Standing.{isRefused, Ran, Fits}
 use Rattle.rows.specs.declared.Progress.{Progress}
-use Rattle.rows.proofs.Parts.{ran-stops, ran-then, fits-first, fits-then}
+use Rattle.rows.proofs.Parts.{fits-fresh, ran-nothing, ran-stops, ran-then, fits-first, fits-then}
 
 -- what is left from boundary b on, with the marks ms
 abbrev pub leftOf : ℕ → List Event → List Float → List Float → List Bool → ℕ → List Step
@@ -30,15 +31,15 @@ module _ (advance : Propagator) (n : ℕ) (es : List Event) (ss bs : List Float)
     pub on : isRefused (p .reply) ≡ false
     pub room : Fits n p (leftOf n es ss bs ms b) c
 
-  pub going-start : {p : Progress} {ms : List Bool} → 1 ≤ length bs → ms ≡ replicate (length es) false → Ran advance n start [] old p old
-      → isRefused (p .reply) ≡ false → Fits n p (fromFirst n es ss bs) old → Going ms p old 0
+  pub going-start : (s : Progress) → start ≡ fresh s → {ms : List Bool} → 1 ≤ length bs → ms ≡ replicate (length es) false
+      → Fits n s (fromFirst n es ss bs) old → Going ms start old 0
   unfolding fromFirst
-  going-start {p} {ms} h m r o f = record {
+  going-start s e {ms} h m f = record {
     ahead = [];
     whole = same;
-    ran = r;
-    on = o;
-    room = subst (λ (xs : List Step). Fits n p xs old) (sym same) f;
+    ran = rw e (ran-nothing (fresh s) old);
+    on = rw e;
+    room = subst (λ (xs : List Step). Fits n start xs old) (sym same) (fits-fresh s e f);
   }
     where
       first : (bs : List Float) → 1 ≤ length bs → leftOf n es ss bs (replicate (length es) false) 0 ≡ fromFirst n es ss bs

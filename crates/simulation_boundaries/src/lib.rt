@@ -3,7 +3,6 @@ use events::Reals;
 use events::Words;
 use limits::EVENTS;
 use linear_pk::LinearPk;
-use refusal::Reply;
 use rows::Progress;
 ghost use Prim.Native.Nat.{_≤_};
 ghost use lib.ListN.{length};
@@ -36,15 +35,7 @@ pub fn over_boundaries(
 {
     let last = bounds.len() - 1;
     let mut marks = [false; EVENTS];
-    let amounts = start.amounts;
-    let mut p = Progress {
-        reply: Reply::Done,
-        time: 0.0,
-        amounts: amounts,
-        left: start.left,
-        made: start.made,
-        rows: start.rows,
-    };
+    let mut p = start.resumed();
     let mut b = 0usize;
     while b < last {
         let t = bounds[b];

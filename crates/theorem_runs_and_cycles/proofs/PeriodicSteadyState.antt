@@ -66,7 +66,7 @@ module _ (c : Call) (r : P.SteadyReply) (exit : Slices) (q : Contract c r exit) 
         slices =
             ap₂ (λ (a b : List Float). record { amounts = a; residual = b })
             (q .amounts ∙ ap (λ (o : Timed SteadyState). answerAtExit (λ s. s .amounts) o (c .lent .amounts)) e)
-            (q .residual ∙ ap (λ (o : Timed SteadyState). answerAtExit (λ s. s .residuals) o (c .lent .residual)) e);
+            (q .residuals ∙ ap (λ (o : Timed SteadyState). answerAtExit (λ s. s .residuals) o (c .lent .residual)) e);
       }
 
   unchanged : 0 < steadyReply r .number → AtRefusal c r exit (steadyReply r .number) (steadyReply r .time)
@@ -115,7 +115,7 @@ module _ (c : Call) (r : P.SteadyReply) (exit : Slices) (q : Contract c r exit) 
               ∙ ap (λ (xs : List Float). xs ++ drop (length xs) (c .lent .amounts)) (g .amounts)
               ∙ ap (λ (k : ℕ). a ++ drop k (c .lent .amounts)) (solve-length (callStates c) _ a (y .solves));
           residual =
-              q .residual ∙ ap (λ (o : Timed SteadyState). answerAtExit (λ s. s .residuals) o (c .lent .residual)) (begins ∙ d)
+              q .residuals ∙ ap (λ (o : Timed SteadyState). answerAtExit (λ s. s .residuals) o (c .lent .residual)) (begins ∙ d)
               ∙ ap (λ (xs : List Float). xs ++ drop (length xs) (c .lent .residual)) (g .residuals)
               ∙ ap (λ (k : ℕ). residualsOf (callStates c) a end ++ drop k (c .lent .residual)) (residuals-length (callStates c) a end);
         }

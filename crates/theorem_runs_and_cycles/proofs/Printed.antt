@@ -28,7 +28,7 @@ use Rattle.printout_steady.specs.SteadyReplies.{steadyPrintout}
 use Rattle.rig_steady_cycle.specs.SheetCycle.{steadyWith}
 use Rattle.rig_steady_cycle.proofs.Kept.{Sized, Kept, steady-kept}
 use Rattle.rig_steady_sheet.specs.SteadySheet.{steadySheet, steadyOfBytes, steadyPrintoutOfBytes}
-use Rattle.rig_steady_sheet.proofs.Kernels.{model-sound}
+use Rattle.sheet_kernel.proofs.Kernels.{model-sound}
 use Rattle.theorem_runs_and_cycles.proofs.Demand3.{demand-3}
 use Rattle.theorem_runs_and_cycles.specs.Printed.{candidate, YieldsOn, AcceptsOn, RejectsOn, PrintsAnswer, PrintsRefusal, PrintsCycle, Printed}
 

@@ -19,15 +19,17 @@ use Rattle.linear_pk.specs.declared.kernel.LinearPk.{LinearPk}
 use Rattle.protocol.specs.declared.Event.{Event}
 use Rattle.protocol.specs.declared.Window.{Window}
 use Rattle.protocol.specs.First.{unless, firstOf}
-use Rattle.protocol.specs.Prepare.{windowPasses, within, eventsPass, reckoned, prepare}
+use Rattle.protocol.specs.Prepare.{windowPasses, within, eventsPass, reckoned, validate, prepare}
 use Rattle.protocol.specs.Execute.{State, Outcome, go, stop, runOf}
 use Rattle.protocol.specs.Entry.{Room, roomFor, firstRefusal, simulate, RunReport, reportOf}
-use Rattle.protocol.specs.PlainRun.{oneOf, Cycle, Prepared, rowsLeft, Budgeted, PlainRun}
+use Rattle.protocol.specs.PlainRun.{stopNumbers, oneOf, Cycle, Prepared, rowsLeft, Budgeted, PlainRun}
 use Rattle.protocol.proofs.Conditions.{meets-above}
 use Rattle.protocol.specs.SamplesApart.{SamplesApart}
 use Rattle.protocol.proofs.ListLaws.{or-right}
 use Rattle.protocol.proofs.EntryLaws.{Passes, ahead-none, simulate-runs, simulate-refuses}
 use Rattle.preparation.specs.Preparation.{ownNumber}
+use Rattle.preparation.proofs.Positive.{Positive, ahead-positive}
+use Rattle.simulation.proofs.Whole.{own-none}
 use Rattle.simulation.specs.KernelRun.{propagatorOf, refusalOf}
 use Rattle.simulation.specs.Entries.{simulateEntry, runReply}
 use Rattle.simulation_report.specs.declared.RunReply.{RunReply}
@@ -36,74 +38,11 @@ use Rattle.theorem_runs_and_cycles.specs.Simulate.{Contract, TimesFit, P
 use Rattle.theorem_runs_and_cycles.specs.Simulate.{EverySimulate}
 use Rattle.theorem_runs_and_cycles.proofs.Demand3.{demand-3}
 
--- ---- the numbers of refusals are above 0
-abbrev Above : Option ℕ → Type 0
-Above none = Unit {0}
-Above (some m) = 0 < m
-
-test : (b : Bool) (m : ℕ) → 0 < m → Above (unless b m)
-test true m h = tt
-test false m h = h
-
-above-first : (os : List (Option ℕ)) → All Above os → Above (firstOf os)
-above-first [] h = tt
-above-first (none ∷ os) h = above-first os (h .1)
-above-first (some m ∷ os) h = h .0
-
-above-own : (k : LinearPk) → Above (ownNumber (sound k))
-above-own k = on (volumesPass k)
-  where
-    rates : (b : Bool) → Above (ownNumber (R.unless b 2 k))
-    rates true = tt
-    rates false = omega arith
-
-    on : (b : Bool) → Above (ownNumber (R.andThen (R.unless b 1 k) (λ k. R.unless (matrixFinite k) 2 k)))
-    on true = rates (matrixFinite k)
-    on false = omega arith
-
-above-prepare : (n : ℕ) (w : Window) (ss : List Float) (es : List Event) → Above (prepare n w ss es)
-unfolding prepare
-above-prepare n w ss es = on (leb (length es) (w .events)) (windowPasses w) (all (within w) ss) (eventsPass n w [] es) (leb (reckoned ss es * n) (w .outputs))
-  where
-    on : (a b c d e : Bool) → Above (firstOf (unless a 13 ∷ unless b 10 ∷ unless c 11 ∷ unless d 12 ∷ unless e 14 ∷ []))
-    on a b c d e =
-        above-first (unless a 13 ∷ unless b 10 ∷ unless c 11 ∷ unless d 12 ∷ unless e 14 ∷ [])
-        (test a 13 (omega arith), (test b 10 (omega arith), (test c 11 (omega arith), (test d 12 (omega arith), (test e 14 (omega arith), tt)))))
-
-above-ahead : (k : LinearPk) (n : ℕ) (w : Window) (ss : List Float) (es : List Event) (a : List Float) (callRoom : Room)
-    → Above (firstRefusal (ownNumber (sound k)) n w ss es a callRoom)
-unfolding firstRefusal
-above-ahead k n w ss es a callRoom = on (leb (length es) mostEvents && leb (length ss) mostSamples) (amountsPass n a) (roomFor (reckoned ss es) n callRoom)
-  where
-    on : (b c d : Bool) → Above (firstOf (unless b 5 ∷ ownNumber (sound k) ∷ unless c 3 ∷ prepare n w ss es ∷ unless d 4 ∷ []))
-    on b c d =
-        above-first (unless b 5 ∷ ownNumber (sound k) ∷ unless c 3 ∷ prepare n w ss es ∷ unless d 4 ∷ [])
-        (test b 5 (omega arith), (above-own k, (test c 3 (omega arith), (above-prepare n w ss es, (test d 4 (omega arith), tt)))))
-
 pub not-zero : {A : Type 0} {m : ℕ} → 0 < m → m ≡ 0 → A
 not-zero h e = absurd (no h e)
   where
     no : {m : ℕ} → 0 < m → m ≡ 0 → ⊥
     no h e = omega arith
-
--- ---- a kernel whose own test gives no number passes it
-own-sound : (k : LinearPk) → ownNumber (sound k) ≡ none → sound k ≡ R.done k
-own-sound k = on (volumesPass k)
-  where
-    some-none : {A : Type 0} {m : ℕ} → some m ≡ none → A
-    some-none q = absurd (no q)
-      where
-        no : {m : ℕ} → some m ≡ none → ⊥
-        no q = let z : _≡_ {A = ℕ} 0 1 = cc in omega arith
-
-    rates : (b : Bool) → ownNumber (R.unless b 2 k) ≡ none → R.unless b 2 k ≡ R.done k
-    rates true q = refl
-    rates false q = some-none q
-
-    on : (b : Bool) → ownNumber (R.andThen (R.unless b 1 k) (λ k. R.unless (matrixFinite k) 2 k)) ≡ none
-        → R.andThen (R.unless b 1 k) (λ k. R.unless (matrixFinite k) 2 k) ≡ R.done k
-    on true q = rates (matrixFinite k) q
-    on false q = some-none q
 
 -- ---- one call
 module _ (c : Call) where
@@ -128,11 +67,11 @@ module _ (c : Call) where
   plain : TimesFit c → Passed c → PlainRun (propagatorOf (c .kernel)) (refusalOf (c .kernel)) (callStates c) (c .window) (c .samples)
       (callEvents c) (c .amounts)
   plain f p =
-      demand-3 .plain-run (c .kernel) (own-sound (c .kernel) (passes p .kernel)) (c .window) (c .samples) (callEvents c) (prepared f p)
+      demand-3 .plain-run (c .kernel) (own-none (c .kernel) (passes p .kernel)) (c .window) (c .samples) (callEvents c) (prepared f p)
       (c .amounts) (passes p .amounts)
 
   module _ (r : RunReply) (exit : Slices) (q : Contract c r exit) where
-    -- a reply of 0 is no refusal firstRefusal
+    -- a reply of 0 is no refusal ahead
     passed : runReply r .number ≡ 0 → Passed c
     unfolding simulateEntry
     passed e = record { count = leb→le (c .count) mostEvents counts; tests = on _ refl }
@@ -154,7 +93,7 @@ module _ (c : Call) where
             → firstRefusal own (callStates c) (c .window) (c .samples) (callEvents c) (c .amounts) (callRoom c) ≡ none
         on none d = d
         on (some m) d =
-            not-zero (subst Above d (above-ahead (c .kernel) (callStates c) (c .window) (c .samples) (callEvents c) (c .amounts) (callRoom c)))
+            not-zero (subst Positive d (ahead-positive (c .kernel) (callStates c) (c .window) (c .samples) (callEvents c) (c .amounts) (callRoom c)))
             (sym (ap (λ (b : Bool). reportOf (cond b whole (R.refused 5)) .number) (le-leb (c .count) mostEvents (leb→le (c .count) mostEvents counts))
             ∙ ap (λ (x : R.Result Outcome). reportOf x .number) (simulate-refuses (propagatorOf (c .kernel)) own (callStates c) (c .window)
             (c .samples) (callEvents c) (c .amounts) (callRoom c) m d)) ∙ number)
@@ -234,12 +173,12 @@ module _ (c : Call) where
           on (go z) d = rw (reply-at (go z) d) (record { within = λ _. run .ended z d; beyond = λ q. absurd (not-thirty q) })
           on (stop m t z) d = rw (reply-at (stop m t z) d) (run .budgeted m t z d)
 
-      cycle : Cycle (c .window) → T (oneOf (runReply r .number) (0 ∷ 20 ∷ 21 ∷ 22 ∷ 30 ∷ 31 ∷ 32 ∷ []))
+      cycle : Cycle (c .window) → T (oneOf (runReply r .number) (0 ∷ stopNumbers))
       cycle k = on (run .cycle k)
         where
           on : ((z : State) × (runOn c ≡ go z)) ⊎ ((m : ℕ) × (t : Float) × (z : State) × (runOn c ≡ stop m t z)
-              × T (oneOf m (20 ∷ 21 ∷ 22 ∷ 30 ∷ 31 ∷ 32 ∷ [])))
-              → T (oneOf (runReply r .number) (0 ∷ 20 ∷ 21 ∷ 22 ∷ 30 ∷ 31 ∷ 32 ∷ []))
+              × T (oneOf m stopNumbers))
+              → T (oneOf (runReply r .number) (0 ∷ stopNumbers))
           on (inl (z, d)) = rw (ap (λ (x : RunReport). x .number) (reply-at (go z) d)) tt
           on (inr (m, t, z, d, h)) = rw (ap (λ (x : RunReport). x .number) (reply-at (stop m t z) d)) (or-right (eqb m 0) _ h)
 

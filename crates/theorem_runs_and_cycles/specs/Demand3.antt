@@ -15,7 +15,11 @@ use Rattle.cycle.specs.ClosedCycle.{TimesFit, ClosedCycle}
 
 -- the closed cycles of every kernel that passes its own test
 abbrev pub EveryKernelCycle : Type 0
-EveryKernelCycle = (k : LinearPk) → sound k ≡ done k → (w : Window) (ss : List Float) (es : List Event) (tol : SteadyStateTolerance) → TimesFit w es
+EveryKernelCycle =
+    (k : LinearPk)
+    → sound k ≡ done k
+    → (w : Window) (ss : List Float) (es : List Event) (tol : SteadyStateTolerance)
+    → TimesFit w es
     → ClosedCycle (propagatorOf k) (stateCount k) w ss es tol
 
 pub record Demand3 : Type 0 where

@@ -18,6 +18,7 @@ use Rattle.simulation.specs.KernelRun.{propagatorOf}
 use Rattle.cycle.specs.declared.SteadyStateTolerance.{SteadyStateTolerance}
 use Rattle.cycle.specs.Closed.{Timed, stopped, divided, lastPost, candidateOf, residualsOf, SteadyState, steadyReportOf, answerAtExit}
 use Rattle.cycle.specs.ClosedCycle.{TimesFit, closedNumbers, Yields, Accepts, Rejects, maximumTo}
+use Rattle.periodic_acceptance.specs.Replies.{SteadyAnswer}
 use Rattle.periodic_acceptance.specs.Entry.{steadyRoom, steadyEntry, steadyReply}
 use Rattle.periodic_acceptance.specs.declared.SteadyReply.{SteadyReply}
 
@@ -50,10 +51,8 @@ entryOf c =
     (steadyRoom (c .kernel) (length (c .lent .amounts)) (length (c .lent .residual)))
 
 -- the contract of `periodic_steady_state`: its reply r, and the slices at exit
-pub record Contract (c : Call) (r : SteadyReply) (exit : Slices) : Type 0 where
-  pub reply : steadyReply r ≡ steadyReportOf (entryOf c)
-  pub amounts : exit .amounts ≡ answerAtExit (λ s. s .amounts) (entryOf c) (c .lent .amounts)
-  pub residual : exit .residual ≡ answerAtExit (λ s. s .residuals) (entryOf c) (c .lent .residual)
+abbrev pub Contract : Call → SteadyReply → Slices → Type 0
+Contract c r exit = SteadyAnswer (entryOf c) (steadyReply r) (c .lent .amounts) (c .lent .residual) (exit .amounts) (exit .residual)
 
 -- ---- what is given
 -- within the limits, a kernel that passes its own test, a cell for each state in both slices
@@ -111,7 +110,12 @@ pub record Replied (c : Call) (r : SteadyReply) (exit : Slices) : Type 0 where
   pub numbers : T (oneOf (steadyReply r .number) (0 ∷ closedNumbers))
 
 pub record EverySteadyState : Type 0 where
-  pub replied : (c : Call) (r : SteadyReply) (exit : Slices) → Contract c r exit → TimesFit (c .window) (callEvents c) → Passed c → Replied c r exit
+  -- within the limits, of a kernel that passes its own test, with room for the answer
+  pub replied : (c : Call) (r : SteadyReply) (exit : Slices)
+      → Contract c r exit
+      → TimesFit (c .window) (callEvents c)
+      → Passed c
+      → Replied c r exit
   -- at every number above 0 the slices are as they were
   pub unchanged : (c : Call) (r : SteadyReply) (exit : Slices) → Contract c r exit → 0 < steadyReply r .number
       → AtRefusal c r exit (steadyReply r .number) (steadyReply r .time)

@@ -20,7 +20,7 @@ use Rattle.protocol.specs.Prepare.{reckoned}
 use Rattle.protocol.specs.Schedule.{schedule}
 use Rattle.protocol.specs.Execute.{State, Outcome, go, begin, runOf}
 use Rattle.protocol.specs.Entry.{Room, firstRefusal, reportOf, frontThenZeros, timesAtExit, sidesAtExit, valuesAtExit}
-use Rattle.protocol.specs.PlainRun.{oneOf, Cycle, FirstMet, advancesBy, Reached, Budgeted}
+use Rattle.protocol.specs.PlainRun.{stopNumbers, oneOf, Cycle, FirstMet, advancesBy, Reached, Budgeted}
 use Rattle.protocol.specs.SamplesApart.{SamplesApart}
 use Rattle.preparation.specs.Preparation.{ownNumber}
 use Rattle.simulation.specs.KernelRun.{propagatorOf, refusalOf}
@@ -28,7 +28,7 @@ use Rattle.simulation.specs.Entries.{room, simulateEntry, runReply}
 use Rattle.simulation_report.specs.declared.RunReply.{RunReply}
 
 -- ---- a call
--- the callRoom of the lent slices
+-- the cells of the lent slices
 pub record Slices : Type 0 where
   pub times : List Float
   pub sides : List ℕ
@@ -79,7 +79,7 @@ pub record TimesFit (c : Call) : Type 0 where
   pub samples-fit : T (all (fits binary64) (c .samples))
   pub times-fit : T (all (λ (e : Event). fits binary64 (time e)) (callEvents c))
 
--- no test firstRefusal of the run refuses
+-- no test ahead of the run refuses
 pub record Passed (c : Call) : Type 0 where
   pub count : c .count ≤ mostEvents
   pub tests : firstRefusal (ownNumber (sound (c .kernel))) (callStates c) (c .window) (c .samples) (callEvents c) (c .amounts) (callRoom c) ≡ none
@@ -122,7 +122,7 @@ pub record Replied (c : Call) (r : RunReply) (exit : Slices) : Type 0 where
   -- advances: at most the budget, unless the number is 30; the budget and one then
   pub budgeted : Budgeted (c .window .propagations) (runReply r .number) (runReply r .advances)
   -- in a cycle one of these, and never 3
-  pub cycle : Cycle (c .window) → T (oneOf (runReply r .number) (0 ∷ 20 ∷ 21 ∷ 22 ∷ 30 ∷ 31 ∷ 32 ∷ []))
+  pub cycle : Cycle (c .window) → T (oneOf (runReply r .number) (0 ∷ stopNumbers))
 
 -- two calls that differ in samples, budgets, tolerances and slices alone
 pub record Apart (c c' : Call) : Type 0 where
@@ -143,8 +143,21 @@ pub record SameRows (c c' : Call) (exit exit' : Slices) : Type 0 where
   pub rows : SamplesApart left left'
 
 pub record EverySimulate : Type 0 where
-  pub replied : (c : Call) (r : RunReply) (exit : Slices) → Contract c r exit → TimesFit c → Passed c → Replied c r exit
-  -- a reply of 0 says that no test firstRefusal refused
+  -- where no test ahead of the run refuses
+  pub replied : (c : Call) (r : RunReply) (exit : Slices)
+      → Contract c r exit
+      → TimesFit c
+      → Passed c
+      → Replied c r exit
+  -- a reply of 0 says that no test ahead refused
   pub passed : (c : Call) (r : RunReply) (exit : Slices) → Contract c r exit → runReply r .number ≡ 0 → Passed c
-  pub same-rows : (c c' : Call) (r r' : RunReply) (exit exit' : Slices) → Contract c r exit → Contract c' r' exit' → TimesFit c → TimesFit c' → Apart c c'
-      → runReply r .number ≡ 0 → runReply r' .number ≡ 0 → SameRows c c' exit exit'
+  -- of two that reach the end
+  pub same-rows : (c c' : Call) (r r' : RunReply) (exit exit' : Slices)
+      → Contract c r exit
+      → Contract c' r' exit'
+      → TimesFit c
+      → TimesFit c'
+      → Apart c c'
+      → runReply r .number ≡ 0
+      → runReply r' .number ≡ 0
+      → SameRows c c' exit exit'

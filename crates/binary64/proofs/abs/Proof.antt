@@ -19,10 +19,6 @@ use Rattle.binary64.proofs.abs.Lts as lts
 good : (c : lts.Else1 reads.Pre reads.Post) → Good binary64 (c .before .args .x)
 good c = (search needs, is-real (c .before .args .x) (c .if1 .left))
 
-returns : tie.Need-returns
-unfolding magnitude
-returns c = rw (is-nan (c .before .args .x) (c .if1 .taken))
-
 float-from-bits-result : tie.Need-float-from-bits-result
 float-from-bits-result c =
     let x = c .before .args .x in
@@ -34,4 +30,6 @@ returns-2 c =
     ap (ofBits binary64) (magnitude64 x (good c)) ∙ ofBits-toBits binary64 (magnitude x) (magnitude-good binary64 x (good c) .0)
 
 pub abs-spec : {M : Type 1} → statement M
-abs-spec = tie.close (tie.spec returns (λ c. good c .1) float-from-bits-result returns-2)
+unfolding magnitude
+abs-spec = tie.close (tie.spec
+    (λ c. rw (is-nan (c .before .args .x) (c .if1 .taken))) (λ c. good c .1) float-from-bits-result returns-2)

@@ -18,9 +18,6 @@ Inv-loop test xs ok₀ i₀ ok i = (i ≤ length xs) × (ok && all (passesTest t
 abbrev μ-loop : tie.MeasureT-loop
 μ-loop test xs ok₀ i₀ ok i = length xs - i
 
-loop-holds : tie.Need-loop-holds Inv-loop μ-loop
-loop-holds c = (omega arith, refl)
-
 loop-again : tie.Need-loop-again Inv-loop μ-loop
 loop-again c =
     let at-loop = c .before .before .before in
@@ -38,8 +35,6 @@ returns c =
     all-done (passesTest (s .args .test)) (s .args .xs .now) (l .i) (l .ok) (c .loop-test .left) (l .inv .1)
 
 pub all-pass-spec : {M : Type 1} → statement M
-all-pass-spec =
-    tie.close
-    (tie.spec
-    Inv-loop μ-loop loop-holds (λ c. search needs) (λ c. search needs) (λ c κs. search needs) (λ c. search needs)
-    (λ c. search needs) loop-again returns)
+all-pass-spec = tie.close (tie.spec
+    Inv-loop μ-loop (λ c. (omega arith, refl)) (λ c. search needs) (λ c. search needs) (λ c κs. search needs)
+    (λ c. search needs) (λ c. search needs) loop-again returns)

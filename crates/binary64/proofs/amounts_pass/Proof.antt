@@ -3,11 +3,6 @@ use borrow.Author.Needs.{needs}
 use Rattle.binary64.proofs.amounts_pass.Statement.{statement}
 use Rattle.binary64.proofs.amounts_pass.Tie as tie
 
-returns : tie.Need-returns
-returns c = rw (c .all-pass .ensures)
-
 pub amounts-pass-spec : {M : Type 1} → statement M
-amounts-pass-spec =
-    tie.close
-    (tie.spec
-    (λ c κs. search needs) returns)
+amounts-pass-spec = tie.close (tie.spec
+    (λ c κs. search needs) (λ c. rw (c .all-pass .ensures)))

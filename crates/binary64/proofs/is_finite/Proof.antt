@@ -12,11 +12,6 @@ use Rattle.binary64.proofs.is_finite.Lts as lts
 good : (c : lts.Else1 reads.Pre reads.Post) → Good binary64 (c .before .args .x)
 good c = (search needs, is-real (c .before .args .x) (c .if1 .left))
 
-returns : tie.Need-returns
-returns c = rw (is-nan (c .before .args .x) (c .if1 .taken))
-
-returns-2 : tie.Need-returns-2
-returns-2 c = finite64 (c .before .args .x) (good c)
-
 pub is-finite-spec : {M : Type 1} → statement M
-is-finite-spec = tie.close (tie.spec (λ c. good c .1) returns returns-2)
+is-finite-spec = tie.close (tie.spec
+    (λ c. good c .1) (λ c. rw (is-nan (c .before .args .x) (c .if1 .taken))) (λ c. finite64 (c .before .args .x) (good c)))

@@ -7,9 +7,7 @@ use Rattle.binary64.specs.Doubles.{plusZero}
 use Rattle.binary64.proofs.is_nonnegative.Statement.{statement}
 use Rattle.binary64.proofs.is_nonnegative.Tie as tie
 
-returns : tie.Need-returns
-unfolding ofBits
-returns c = ap (λ (b : Bool). b && not (lt (c .before .args .x) plusZero)) (c .is-finite .ensures)
-
 pub is-nonnegative-spec : {M : Type 1} → statement M
-is-nonnegative-spec = tie.close (tie.spec (λ c κs. search needs) returns)
+unfolding ofBits
+is-nonnegative-spec = tie.close (tie.spec
+    (λ c κs. search needs) (λ c. ap (λ (b : Bool). b && not (lt (c .before .args .x) plusZero)) (c .is-finite .ensures)))

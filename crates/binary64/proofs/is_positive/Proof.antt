@@ -7,9 +7,7 @@ use Rattle.binary64.specs.Doubles.{plusZero}
 use Rattle.binary64.proofs.is_positive.Statement.{statement}
 use Rattle.binary64.proofs.is_positive.Tie as tie
 
-returns : tie.Need-returns
-unfolding ofBits
-returns c = ap (λ (b : Bool). b && lt plusZero (c .before .args .x)) (c .is-finite .ensures)
-
 pub is-positive-spec : {M : Type 1} → statement M
-is-positive-spec = tie.close (tie.spec (λ c κs. search needs) returns)
+unfolding ofBits
+is-positive-spec = tie.close (tie.spec
+    (λ c κs. search needs) (λ c. ap (λ (b : Bool). b && lt plusZero (c .before .args .x)) (c .is-finite .ensures)))

@@ -14,13 +14,6 @@ use Rattle.binary64_bits.proofs.floor.Lts as lts
 good : (c : lts.Else1 reads.Pre reads.Post) → Good binary64 (c .before .args .x)
 good c = (search needs, is-real (c .before .args .x) (c .if1 .left))
 
-returns : tie.Need-returns
-unfolding floorOf
-returns c = rw (is-nan (c .before .args .x) (c .if1 .taken))
-
-returns-2 : tie.Need-returns-2
-returns-2 c = floor64-signed (c .before .before .args .x) (good (c .before) .0) (c .if2 .taken)
-
 returns-3 : tie.Need-returns-3
 returns-3 c = let s = c .before .before in floor64-whole (s .before .args .x) (good s) (c .before .if2 .left) (c .if3 .taken)
 
@@ -41,8 +34,8 @@ returns-5 c =
     floor64-cut (s .before .args .x) (good s) (c .before .before .if2 .left) (c .before .if3 .left) (c .if4 .left)
 
 pub floor-spec : {M : Type 1} → statement M
-floor-spec =
-    tie.close
-    (tie.spec
-    returns (λ c. good c .1) returns-2 returns-3 returns-4 (λ c. search needs) (λ c. search needs) float-from-bits-result
-    returns-5)
+unfolding floorOf
+floor-spec = tie.close (tie.spec
+    (λ c. rw (is-nan (c .before .args .x) (c .if1 .taken))) (λ c. good c .1)
+    (λ c. floor64-signed (c .before .before .args .x) (good (c .before) .0) (c .if2 .taken)) returns-3 returns-4
+    (λ c. search needs) (λ c. search needs) float-from-bits-result returns-5)

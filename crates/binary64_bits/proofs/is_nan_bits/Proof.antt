@@ -5,8 +5,6 @@ use lib.Ieee.Bits.{nanBits-above}
 use Rattle.binary64_bits.proofs.is_nan_bits.Statement.{statement}
 use Rattle.binary64_bits.proofs.is_nan_bits.Tie as tie
 
-returns : tie.Need-returns
-returns c = sym (nanBits-above binary64 (c .args .bits))
-
 pub is-nan-bits-spec : {M : Type 1} → statement M
-is-nan-bits-spec = tie.close (tie.spec returns)
+is-nan-bits-spec = tie.close (tie.spec
+    (λ c. sym (nanBits-above binary64 (c .args .bits))))

@@ -20,8 +20,7 @@ returns c =
     let bits = c .before .before .args .bits in
     nan-is (ofBits binary64 bits) (sym (nanBits-is binary64 bits) ∙ sym (c .before .is-nan-bits .ensures) ∙ c .if1 .taken)
 
-float-from-bits-result : tie.Need-float-from-bits-result
-float-from-bits-result c = subst (λ (t : Bool). T (not t)) (sym (c .if1 .left) ∙ c .before .is-nan-bits .ensures) tt
-
 pub of-bits-spec : {M : Type 1} → statement M
-of-bits-spec = tie.close (tie.spec (λ c κs. search needs) returns float-from-bits-result (λ c. search needs))
+of-bits-spec = tie.close (tie.spec
+    (λ c κs. search needs) returns
+    (λ c. subst (λ (t : Bool). T (not t)) (sym (c .if1 .left) ∙ c .before .is-nan-bits .ensures) tt) (λ c. search needs))

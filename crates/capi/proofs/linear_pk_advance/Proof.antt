@@ -9,7 +9,5 @@ returns c =
     rw (← at-advance .before .before .kernel-at .ensures, c .number .ensures) (at-advance .advance .ensures)
 
 pub linear-pk-advance-spec : {M : Type 1} → statement M
-linear-pk-advance-spec =
-    tie.close
-    (tie.spec
+linear-pk-advance-spec = tie.close (tie.spec
     (λ c κs. search needs) (λ c κs. search needs) (λ c κs. search needs) (λ c. search needs) returns)

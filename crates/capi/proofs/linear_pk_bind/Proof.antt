@@ -3,11 +3,6 @@ use borrow.Author.Needs.{needs}
 use Rattle.capi.proofs.linear_pk_bind.Statement.{statement}
 use Rattle.capi.proofs.linear_pk_bind.Tie as tie
 
-returns : tie.Need-returns
-returns c = c .before .before .bind .ensures
-
 pub linear-pk-bind-spec : {M : Type 1} → statement M
-linear-pk-bind-spec =
-    tie.close
-    (tie.spec
-    (λ c κs. search needs) (λ c. search needs) returns)
+linear-pk-bind-spec = tie.close (tie.spec
+    (λ c κs. search needs) (λ c. search needs) (λ c. c .before .before .bind .ensures))

@@ -9,7 +9,5 @@ returns c =
     rw (← at-concentrations .before .before .kernel-at .ensures, c .number .ensures) (at-concentrations .concentrations .ensures)
 
 pub linear-pk-concentrations-spec : {M : Type 1} → statement M
-linear-pk-concentrations-spec =
-    tie.close
-    (tie.spec
+linear-pk-concentrations-spec = tie.close (tie.spec
     (λ c κs. search needs) (λ c κs. search needs) (λ c κs. search needs) (λ c. search needs) returns)

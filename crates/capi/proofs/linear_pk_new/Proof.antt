@@ -3,11 +3,6 @@ use borrow.Author.Needs.{needs}
 use Rattle.capi.proofs.linear_pk_new.Statement.{statement}
 use Rattle.capi.proofs.linear_pk_new.Tie as tie
 
-returns : tie.Need-returns
-returns c = c .before .before .new .ensures
-
 pub linear-pk-new-spec : {M : Type 1} → statement M
-linear-pk-new-spec =
-    tie.close
-    (tie.spec
-    (λ c κs. search needs) (λ c. search needs) returns)
+linear-pk-new-spec = tie.close (tie.spec
+    (λ c κs. search needs) (λ c. search needs) (λ c. c .before .before .new .ensures))

@@ -77,8 +77,6 @@ returns-4 c =
     e) (at-if2 .if2 .left) (c .before .before .put-list .ensures)
 
 pub fold-words-spec : {M : Type 1} → statement M
-fold-words-spec =
-    tie.close
-    (tie.spec
+fold-words-spec = tie.close (tie.spec
     (λ c κs. search needs) returns (λ c κs. search needs) (λ c κs. search needs) (λ c. search needs)
     (λ c. search needs) mul-if2 returns-2 put-list-requires returns-3 (λ c. search needs) returns-4)

@@ -13,9 +13,6 @@ Inv-loop count out₀ list at₀ i₀ out at i = (i ≤ count) × Put list out�
 abbrev μ-loop : tie.MeasureT-loop
 μ-loop count out₀ list at₀ i₀ out at i = count - i
 
-loop-holds : tie.Need-loop-holds Inv-loop μ-loop
-loop-holds c = (omega arith, put-start _ _)
-
 put-event-requires : tie.Need-put-event-requires Inv-loop μ-loop
 put-event-requires c κs =
     let v = c .before .before .before .loop .inv .1 in
@@ -26,15 +23,8 @@ loop-again c =
     let at-loop = c .before .before .before .before .before .before in
     (omega arith, put-more _ _ _ _ _ _ (search needs) (at-loop .loop .inv .1) (c .before .before .put-event .ensures))
 
-returns : tie.Need-returns Inv-loop μ-loop
-returns c = rw (le-antisymm (c .before .loop .inv .0) (c .loop-test .left)) at (c .before .loop .inv .1 .wrote)
-
-same-length : tie.Need-same-length Inv-loop μ-loop
-same-length c = c .before .loop .inv .1 .wrote .same
-
 pub put-list-spec : {M : Type 1} → statement M
-put-list-spec =
-    tie.close
-    (tie.spec
-    Inv-loop μ-loop loop-holds (λ c. search needs) (λ c. search needs) put-event-requires (λ c. search needs)
-    (λ c. search needs) loop-again same-length returns)
+put-list-spec = tie.close (tie.spec
+    Inv-loop μ-loop (λ c. (omega arith, put-start _ _)) (λ c. search needs) (λ c. search needs) put-event-requires
+    (λ c. search needs) (λ c. search needs) loop-again (λ c. c .before .loop .inv .1 .wrote .same)
+    (λ c. rw (le-antisymm (c .before .loop .inv .0) (c .loop-test .left)) at (c .before .loop .inv .1 .wrote)))

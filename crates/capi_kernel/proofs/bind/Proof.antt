@@ -40,9 +40,7 @@ returns-3 c =
     ) (refl, rw (at-bound-cells .bound-cells .ensures) at (c .before .before .lay .ensures))
 
 pub bind-spec : {M : Type 1} → statement M
-bind-spec =
-    tie.close
-    (tie.spec
+bind-spec = tie.close (tie.spec
     (λ c κs. search needs) (λ c κs. search needs) (λ c. search needs) (λ c κs. search needs) (λ c. search needs)
     (λ c κs. search needs) returns (λ c κs. search needs) (λ c. search needs) (λ c κs. search needs) returns-2 (λ c. search needs)
     returns-3)

@@ -41,9 +41,7 @@ returns-3 c =
     ) (refl, rw (at-kernel-cells .kernel-cells .ensures) at (c .before .before .lay .ensures))
 
 pub new-spec : {M : Type 1} → statement M
-new-spec =
-    tie.close
-    (tie.spec
+new-spec = tie.close (tie.spec
     (λ c κs. search needs) (λ c κs. search needs) (λ c. search needs) (λ c κs. search needs) (λ c. search needs)
     (λ c κs. search needs) returns (λ c κs. search needs) (λ c. search needs) (λ c κs. search needs) returns-2 (λ c. search needs)
     returns-3)

@@ -14,7 +14,5 @@ unfolding boundCell
 returns-2 c = rw (le-ltb _ _ (c .before .if1 .left))
 
 pub bound-cell-spec : {M : Type 1} → statement M
-bound-cell-spec =
-    tie.close
-    (tie.spec
+bound-cell-spec = tie.close (tie.spec
     (λ c κs. search needs) returns (λ c. search needs) (λ c. search needs) returns-2)

@@ -6,15 +6,7 @@ use lib.Ieee.{ofBits}
 use Rattle.capi_kernel_cells.proofs.count_cell.Statement.{statement}
 use Rattle.capi_kernel_cells.proofs.count_cell.Tie as tie
 
-returns : tie.Need-returns
-returns c = rw (le-leb _ _ (c .before .if1 .taken))
-
-returns-2 : tie.Need-returns-2
-unfolding ofBits
-returns-2 c = rw (lt-leb _ _ (c .if1 .left))
-
 pub count-cell-spec : {M : Type 1} → statement M
-count-cell-spec =
-    tie.close
-    (tie.spec
-    (λ c. search needs) (λ c. search needs) returns returns-2)
+unfolding ofBits
+count-cell-spec = tie.close (tie.spec
+    (λ c. search needs) (λ c. search needs) (λ c. rw (le-leb _ _ (c .before .if1 .taken))) (λ c. rw (lt-leb _ _ (c .if1 .left))))

@@ -40,8 +40,6 @@ returns-3 c =
     )
 
 pub kernel-at-spec : {M : Type 1} → statement M
-kernel-at-spec =
-    tie.close
-    (tie.spec
+kernel-at-spec = tie.close (tie.spec
     (λ c κs. search needs) returns (λ c. search needs) (λ c κs. search needs) returns-2 (λ c. search needs) (λ c κs. search needs)
     (λ c κs. search needs) (λ c κs. search needs) returns-3)

@@ -29,8 +29,6 @@ returns-5 c =
     rw (ne-eqb _ _ (c .before .before .before .if1 .left), ne-eqb _ _ (c .before .before .if2 .left), le-ltb _ _ (c .before .if4 .left))
 
 pub kernel-cell-spec : {M : Type 1} → statement M
-kernel-cell-spec =
-    tie.close
-    (tie.spec
+kernel-cell-spec = tie.close (tie.spec
     (λ c κs. search needs) returns returns-2 returns-3 (λ c. search needs) (λ c. search needs) (λ c. search needs) returns-4
     (λ c. search needs) (λ c. search needs) returns-5)

@@ -17,19 +17,12 @@ Inv-loop kernel cells₀ i₀ cells i = (i ≤ kernelCells) × (cells ≡ fill k
 abbrev μ-loop : tie.MeasureT-loop
 μ-loop kernel cells₀ i₀ cells i = kernelCells - i
 
-loop-holds : tie.Need-loop-holds Inv-loop μ-loop
-unfolding fill fillFrom ofBits
-loop-holds c = (omega arith, refl)
-
 loop-again : tie.Need-loop-again Inv-loop μ-loop
 loop-again c = (omega arith, fill-more _ _ _ _ (c .before .before .loop .inv .1) (c .kernel-cell .ensures) (omega arith))
 
-returns : tie.Need-returns Inv-loop μ-loop
-returns c = filled _ _ _ _ (c .before .loop .inv .0) (c .loop-test .left) (c .before .loop .inv .1)
-
 pub kernel-cells-spec : {M : Type 1} → statement M
-kernel-cells-spec =
-    tie.close
-    (tie.spec
-    Inv-loop μ-loop loop-holds (λ c κs. search needs) (λ c. search needs) (λ c. search needs) (λ c. search needs)
-    (λ c. search needs) loop-again returns)
+unfolding fill fillFrom ofBits
+kernel-cells-spec = tie.close (tie.spec
+    Inv-loop μ-loop (λ c. (omega arith, refl)) (λ c κs. search needs) (λ c. search needs) (λ c. search needs)
+    (λ c. search needs) (λ c. search needs) loop-again
+    (λ c. filled _ _ _ _ (c .before .loop .inv .0) (c .loop-test .left) (c .before .loop .inv .1)))

@@ -49,8 +49,6 @@ returns-2 c =
     )
 
 pub simulate-words-spec : {M : Type 1} → statement M
-simulate-words-spec =
-    tie.close
-    (tie.spec
+simulate-words-spec = tie.close (tie.spec
     (λ c κs. search needs) (λ c κs. search needs) returns (λ c κs. search needs) (λ c κs. search needs) (λ c κs. search needs)
     (λ c. search needs) (λ c. search needs) (λ c. search needs) returns-2)

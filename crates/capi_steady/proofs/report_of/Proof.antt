@@ -4,13 +4,7 @@ use lib.Ieee.{ofBits}
 use Rattle.capi_steady.proofs.report_of.Statement.{statement}
 use Rattle.capi_steady.proofs.report_of.Tie as tie
 
-returns : tie.Need-returns
-unfolding ofBits
-returns c = rw (c .before .reply .given .1)
-
-returns-2 : tie.Need-returns-2
-unfolding ofBits
-returns-2 c = rw (c .before .reply2 .given .1)
-
 pub report-of-spec : {M : Type 1} → statement M
-report-of-spec = tie.close (tie.spec (λ c. search needs) (λ c. search needs) returns returns-2)
+unfolding ofBits
+report-of-spec = tie.close (tie.spec
+    (λ c. search needs) (λ c. search needs) (λ c. rw (c .before .reply .given .1)) (λ c. rw (c .before .reply2 .given .1)))

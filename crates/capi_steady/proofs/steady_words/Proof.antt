@@ -38,9 +38,7 @@ returns-2 c =
     )
 
 pub steady-words-spec : {M : Type 1} → statement M
-steady-words-spec =
-    tie.close
-    (tie.spec
+steady-words-spec = tie.close (tie.spec
     (λ c κs. search needs) (λ c κs. search needs) (λ c κs. search needs) returns (λ c κs. search needs) (λ c κs. search needs)
     (λ c κs. search needs) (λ c. search needs)
     (λ c. search needs) returns-2)

@@ -8,7 +8,5 @@ returns : tie.Need-returns
 returns c = check-takes (c .before .before .args .n) (c .before .before .args .t) (c .before .before .args .start) (c .tested .ensures)
 
 pub check-at-spec : {M : Type 1} → statement M
-check-at-spec =
-    tie.close
-    (tie.spec
+check-at-spec = tie.close (tie.spec
     (λ c κs. search needs) returns)

@@ -48,9 +48,7 @@ returns-2 c =
     rw (c .solved .ensures) (sym (solve-done _ _ _ (l .before .least .ensures) (l .loop .inv .0) (c .before .before .loop-test .left) (l .loop .inv .1)))
 
 pub solve-spec : {M : Type 1} → statement M
-solve-spec =
-    tie.close
-    (tie.spec
+solve-spec = tie.close (tie.spec
     Inv-loop μ-loop (λ c κs. search needs) loop-holds (λ c κs. search needs) (λ c κs. search needs) (λ c κs. search needs) returns
     (λ c κs. search needs) (λ c κs. search needs) (λ c κs. search needs) (λ c κs. search needs) (λ c. search needs)
     (λ c. search needs) loop-again (λ c κs. search needs) returns-2)

@@ -19,9 +19,7 @@ returns-3 c =
     rw (ne-eqb _ _ (c .before .before .before .if1 .left), ne-eqb _ _ (c .before .before .if2 .left))
 
 pub event-at-spec : {M : Type 1} → statement M
-event-at-spec =
-    tie.close
-    (tie.spec
+event-at-spec = tie.close (tie.spec
     (λ c. search needs) (λ c. search needs) (λ c. search needs) (λ c. search needs) (λ c. search needs) (λ c. search needs)
     (λ c. search needs) (λ c. search needs) (λ c. search needs) (λ c. search needs) (λ c. search needs) (λ c. search needs) returns
     (λ c. search needs) (λ c. search needs) (λ c. search needs) returns-2 (λ c. search needs) (λ c. search needs)

@@ -4,20 +4,8 @@ use Rattle.protocol.specs.Events.{target}
 use Rattle.events.proofs.target_of.Statement.{statement}
 use Rattle.events.proofs.target_of.Tie as tie
 
-returns : tie.Need-returns
-unfolding target
-returns c = rw (c .before .event .given .1)
-
-returns-2 : tie.Need-returns-2
-unfolding target
-returns-2 c = rw (c .before .event2 .given .1)
-
-returns-3 : tie.Need-returns-3
-unfolding target
-returns-3 c = rw (c .before .event3 .given .1)
-
 pub target-of-spec : {M : Type 1} → statement M
-target-of-spec =
-    tie.close
-    (tie.spec
-    (λ c. search needs) (λ c. search needs) (λ c. search needs) returns returns-2 returns-3)
+unfolding target
+target-of-spec = tie.close (tie.spec
+    (λ c. search needs) (λ c. search needs) (λ c. search needs) (λ c. rw (c .before .event .given .1))
+    (λ c. rw (c .before .event2 .given .1)) (λ c. rw (c .before .event3 .given .1)))

@@ -3,17 +3,7 @@ use borrow.Author.Needs.{needs}
 use Rattle.events.proofs.time_of.Statement.{statement}
 use Rattle.events.proofs.time_of.Tie as tie
 
-returns : tie.Need-returns
-returns c = rw (c .before .event .given .1)
-
-returns-2 : tie.Need-returns-2
-returns-2 c = rw (c .before .event2 .given .1)
-
-returns-3 : tie.Need-returns-3
-returns-3 c = rw (c .before .event3 .given .1)
-
 pub time-of-spec : {M : Type 1} → statement M
-time-of-spec =
-    tie.close
-    (tie.spec
-    (λ c. search needs) (λ c. search needs) (λ c. search needs) returns returns-2 returns-3)
+time-of-spec = tie.close (tie.spec
+    (λ c. search needs) (λ c. search needs) (λ c. search needs) (λ c. rw (c .before .event .given .1))
+    (λ c. rw (c .before .event2 .given .1)) (λ c. rw (c .before .event3 .given .1)))

@@ -8,10 +8,6 @@ use Rattle.protocol.specs.Events.{boundaries}
 use Rattle.events_boundaries.proofs.boundaries.Statement.{statement}
 use Rattle.events_boundaries.proofs.boundaries.Tie as tie
 
-slice-aggregate-sorted-unique : tie.Need-slice-aggregate-sorted-unique
-slice-aggregate-sorted-unique c =
-    sym (length-take-le _ _ (c .before .before .before .lay .ensures .0))
-
 returns : tie.Need-returns
 unfolding boundaries
 returns c =
@@ -20,7 +16,6 @@ returns c =
     (simp length-append (omega arith), take-append-le _ _ _ (w .0) ∙ rw (at-lay .lay .ensures .1) at (w .1), rw (at-lay .lay .ensures .1) at (w .2))
 
 pub boundaries-spec : {M : Type 1} → statement M
-boundaries-spec =
-    tie.close
-    (tie.spec
-    (λ c κs. search needs) (λ c. search needs) slice-aggregate-sorted-unique (λ c κs. search needs) (λ c. search needs) returns)
+boundaries-spec = tie.close (tie.spec
+    (λ c κs. search needs) (λ c. search needs) (λ c. sym (length-take-le _ _ (c .before .before .before .lay .ensures .0)))
+    (λ c κs. search needs) (λ c. search needs) returns)

@@ -16,12 +16,6 @@ Inv-loop reals words count bounds₀ n₀ k₀ bounds n k =
 abbrev μ-loop : tie.MeasureT-loop
 μ-loop reals words count bounds₀ n₀ k₀ bounds n k = count - k
 
-slice-write-bounds-2 : tie.Need-slice-write-bounds-2 Inv-loop μ-loop
-slice-write-bounds-2 c = let g = c .before .args in omega (arith, length-set (g .bounds .now) 0 (g .window .start))
-
-loop-holds : tie.Need-loop-holds Inv-loop μ-loop
-loop-holds c = (omega arith, omega arith, refl, refl)
-
 lay-event-requires : tie.Need-lay-event-requires Inv-loop μ-loop
 lay-event-requires c κs =
     let g = c .before .before .before .before .before .args in
@@ -62,8 +56,8 @@ returns c =
     )
 
 pub lay-spec : {M : Type 1} → statement M
-lay-spec =
-    tie.close
-    (tie.spec
-    Inv-loop μ-loop (λ c. search needs) slice-write-bounds-2 loop-holds (λ c κs. search needs) lay-event-requires
-    (λ c. search needs) (λ c. search needs) loop-again same-length returns)
+lay-spec = tie.close (tie.spec
+    Inv-loop μ-loop (λ c. search needs)
+    (λ c. let g = c .before .args in omega (arith, length-set (g .bounds .now) 0 (g .window .start)))
+    (λ c. (omega arith, omega arith, refl, refl)) (λ c κs. search needs) lay-event-requires (λ c. search needs)
+    (λ c. search needs) loop-again same-length returns)

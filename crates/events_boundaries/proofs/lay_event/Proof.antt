@@ -46,9 +46,7 @@ returns-3 c =
     )
 
 pub lay-event-spec : {M : Type 1} → statement M
-lay-event-spec =
-    tie.close
-    (tie.spec
+lay-event-spec = tie.close (tie.spec
     (λ c κs. search needs) (λ c. search needs) (λ c. search needs) (λ c. search needs) (λ c. search needs) (λ c. search needs)
     (λ c. search needs) (λ c. search needs) slice-write-bounds-2 (λ c. search needs) (λ c. search needs) (λ c. search needs)
     (λ c. search needs) returns (λ c. search needs) returns-2 (λ c. search needs) returns-3)

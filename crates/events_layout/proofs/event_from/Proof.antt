@@ -27,7 +27,5 @@ returns-3 c =
     rw (ne-eqb _ _ (c .before .if1 .left), ne-eqb _ _ (c .if2 .left), c .before .before .of-bits2 .ensures, c .before .before .before .of-bits .ensures)
 
 pub event-from-spec : {M : Type 1} → statement M
-event-from-spec =
-    tie.close
-    (tie.spec
+event-from-spec = tie.close (tie.spec
     (λ c κs. search needs) (λ c κs. search needs) returns (λ c κs. search needs) returns-2 (λ c. search needs) returns-3)

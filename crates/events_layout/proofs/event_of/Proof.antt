@@ -21,8 +21,6 @@ returns c =
     )
 
 pub event-of-spec : {M : Type 1} → statement M
-event-of-spec =
-    tie.close
-    (tie.spec
+event-of-spec = tie.close (tie.spec
     (λ c κs. search needs) (λ c κs. search needs) (λ c κs. search needs) (λ c κs. search needs) (λ c κs. search needs)
     (λ c κs. search needs) (λ c κs. search needs) returns)

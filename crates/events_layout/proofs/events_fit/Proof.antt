@@ -16,20 +16,9 @@ Inv-loop words count ok₀ i₀ ok i = (i ≤ count) × (ok ≡ allTo (eventFits
 abbrev μ-loop : tie.MeasureT-loop
 μ-loop words count ok₀ i₀ ok i = count - i
 
-loop-holds : tie.Need-loop-holds Inv-loop μ-loop
-unfolding allTo
-loop-holds c = (omega arith, refl)
-
-loop-again : tie.Need-loop-again Inv-loop μ-loop
-unfolding allTo
-loop-again c = (omega arith, rw (add-one, c .event-fits .ensures, c .before .before .loop .inv .1))
-
-returns : tie.Need-returns Inv-loop μ-loop
-unfolding eventsFit
-returns c = rw (rw (le-antisymm (c .before .loop .inv .0) (c .loop-test .left)) at (c .before .loop .inv .1))
-
 pub events-fit-spec : {M : Type 1} → statement M
-events-fit-spec =
-    tie.close
-    (tie.spec
-    Inv-loop μ-loop loop-holds (λ c κs. search needs) (λ c. search needs) (λ c. search needs) loop-again returns)
+unfolding allTo eventsFit
+events-fit-spec = tie.close (tie.spec
+    Inv-loop μ-loop (λ c. (omega arith, refl)) (λ c κs. search needs) (λ c. search needs) (λ c. search needs)
+    (λ c. (omega arith, rw (add-one, c .event-fits .ensures, c .before .before .loop .inv .1)))
+    (λ c. rw (rw (le-antisymm (c .before .loop .inv .0) (c .loop-test .left)) at (c .before .loop .inv .1))))

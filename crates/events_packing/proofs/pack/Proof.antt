@@ -15,20 +15,13 @@ Inv-loop count reals₀ words₀ events i₀ reals words i = (i ≤ count) × Pa
 abbrev μ-loop : tie.MeasureT-loop
 μ-loop count reals₀ words₀ events i₀ reals words i = count - i
 
-loop-holds : tie.Need-loop-holds Inv-loop μ-loop
-loop-holds c = (omega arith, packs-none _ _ (c .pre .1) (c .pre .2))
-
 loop-again : tie.Need-loop-again Inv-loop μ-loop
 loop-again c =
     let at-loop = c .before .before .before .before .before in
     (omega arith, packs-more _ _ _ (search needs) (at-loop .loop .inv .1) (c .put .ensures))
 
-returns : tie.Need-returns Inv-loop μ-loop
-returns c = rw (le-antisymm (c .before .loop .inv .0) (c .loop-test .left)) at (c .before .loop .inv .1 .held)
-
 pub pack-spec : {M : Type 1} → statement M
-pack-spec =
-    tie.close
-    (tie.spec
-    Inv-loop μ-loop loop-holds (λ c. search needs) (λ c. search needs) (λ c κs. search needs) (λ c. search needs)
-    (λ c. search needs) loop-again returns)
+pack-spec = tie.close (tie.spec
+    Inv-loop μ-loop (λ c. (omega arith, packs-none _ _ (c .pre .1) (c .pre .2))) (λ c. search needs) (λ c. search needs)
+    (λ c κs. search needs) (λ c. search needs) (λ c. search needs) loop-again
+    (λ c. rw (le-antisymm (c .before .loop .inv .0) (c .loop-test .left)) at (c .before .loop .inv .1 .held)))

@@ -9,7 +9,5 @@ returns c =
     rw (at-words-of .words-of .ensures) at (c .before .before .put-words .ensures)
 
 pub put-event-spec : {M : Type 1} → statement M
-put-event-spec =
-    tie.close
-    (tie.spec
+put-event-spec = tie.close (tie.spec
     (λ c κs. search needs) (λ c κs. search needs) (λ c. search needs) returns)

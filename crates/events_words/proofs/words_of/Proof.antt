@@ -5,11 +5,6 @@ use Rattle.events_words.specs.Words.{eventWords}
 use Rattle.events_words.proofs.words_of.Statement.{statement}
 use Rattle.events_words.proofs.words_of.Tie as tie
 
-returns : tie.Need-returns
-unfolding eventWords
-returns c =
-    rw (c .before .before .before .event .given .1, c .before .bits .ensures, c .bits2 .ensures) refl
-
 returns-2 : tie.Need-returns-2
 unfolding eventWords
 returns-2 c =
@@ -23,9 +18,9 @@ returns-3 c =
     rw (at-event3 .event3 .given .1, c .before .before .bits6 .ensures, c .before .bits7 .ensures, c .flag .ensures) refl
 
 pub words-of-spec : {M : Type 1} → statement M
-words-of-spec =
-    tie.close
-    (tie.spec
+unfolding eventWords
+words-of-spec = tie.close (tie.spec
     (λ c. search needs) (λ c κs. search needs) (λ c κs. search needs) (λ c. search needs) (λ c κs. search needs)
     (λ c κs. search needs) (λ c κs. search needs) (λ c. search needs) (λ c κs. search needs) (λ c κs. search needs)
-    (λ c. search needs) (λ c κs. search needs) returns returns-2 returns-3)
+    (λ c. search needs) (λ c κs. search needs)
+    (λ c. rw (c .before .before .before .event .given .1, c .before .bits .ensures, c .bits2 .ensures) refl) returns-2 returns-3)

@@ -48,8 +48,6 @@ returns-4 c =
     )
 
 pub exponential-spec : {M : Type 1} → statement M
-exponential-spec =
-    tie.close
-    (tie.spec
+exponential-spec = tie.close (tie.spec
     (λ c κs. search needs) (λ c κs. search needs) (λ c. search needs) (λ c. search needs) (λ c. search needs)
     (λ c κs. search needs) (λ c κs. search needs) returns returns-2 returns-3 returns-4)

@@ -4,12 +4,8 @@ use Rattle.matrix.specs.Exponential.{taylor}
 use Rattle.exponential.proofs.taylor.Statement.{statement}
 use Rattle.exponential.proofs.taylor.Tie as tie
 
-returns : tie.Need-returns
-unfolding taylor
-returns c = rw (← c .before .before .halved .ensures .part, ← c .before .series .ensures .part) (c .squared .ensures)
-
 pub taylor-spec : {M : Type 1} → statement M
-taylor-spec =
-    tie.close
-    (tie.spec
-    (λ c κs. search needs) (λ c κs. search needs) (λ c κs. search needs) returns)
+unfolding taylor
+taylor-spec = tie.close (tie.spec
+    (λ c κs. search needs) (λ c κs. search needs) (λ c κs. search needs)
+    (λ c. rw (← c .before .before .halved .ensures .part, ← c .before .series .ensures .part) (c .squared .ensures)))

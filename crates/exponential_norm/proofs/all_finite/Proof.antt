@@ -17,20 +17,9 @@ Inv-loop a m ok₀ i₀ ok i = (i ≤ m) × (ok ≡ allTo (λ i. allTo (λ j. fi
 abbrev μ-loop : tie.MeasureT-loop
 μ-loop a m ok₀ i₀ ok i = m - i
 
-loop-holds : tie.Need-loop-holds Inv-loop μ-loop
-unfolding allTo
-loop-holds c = (omega arith, refl)
-
-loop-again : tie.Need-loop-again Inv-loop μ-loop
-unfolding allTo
-loop-again c = (omega arith, rw (add-one, c .before .before .loop .inv .1, c .row-finite .ensures))
-
-returns : tie.Need-returns Inv-loop μ-loop
-unfolding allFinite
-returns c = rw (le-antisymm (c .before .loop .inv .0) (c .loop-test .left)) at (c .before .loop .inv .1)
-
 pub all-finite-spec : {M : Type 1} → statement M
-all-finite-spec =
-    tie.close
-    (tie.spec
-    Inv-loop μ-loop loop-holds (λ c κs. search needs) (λ c. search needs) (λ c. search needs) loop-again returns)
+unfolding allFinite allTo
+all-finite-spec = tie.close (tie.spec
+    Inv-loop μ-loop (λ c. (omega arith, refl)) (λ c κs. search needs) (λ c. search needs) (λ c. search needs)
+    (λ c. (omega arith, rw (add-one, c .before .before .loop .inv .1, c .row-finite .ensures)))
+    (λ c. rw (le-antisymm (c .before .loop .inv .0) (c .loop-test .left)) at (c .before .loop .inv .1)))

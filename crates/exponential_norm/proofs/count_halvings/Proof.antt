@@ -45,8 +45,6 @@ unfolding ofBits
 returns-3 c = sym (halvings-stop _ _ _ _ (not-true _ (c .if2 .taken))) ∙ c .before .loop .inv .1
 
 pub count-halvings-spec : {M : Type 1} → statement M
-count-halvings-spec =
-    tie.close
-    (tie.spec
+count-halvings-spec = tie.close (tie.spec
     Inv-loop μ-loop (λ c κs. search needs) returns loop-holds returns-2 (λ c. search needs) (λ c. search needs) loop-again
     returns-3)

@@ -18,22 +18,10 @@ Inv-loop a m i sum₀ j₀ sum j = (j ≤ m) × (sum ≡ sumTo (λ j. magnitude 
 abbrev μ-loop : tie.MeasureT-loop
 μ-loop a m i sum₀ j₀ sum j = m - j
 
-loop-holds : tie.Need-loop-holds Inv-loop μ-loop
-unfolding sumTo ofBits neg
-loop-holds c = (omega arith, refl)
-
-loop-again : tie.Need-loop-again Inv-loop μ-loop
-unfolding sumTo
-loop-again c =
-    (omega arith, rw (add-one, c .abs .ensures, c .before .before .before .loop .inv .1))
-
-returns : tie.Need-returns Inv-loop μ-loop
-unfolding rowSum
-returns c = rw (le-antisymm (c .before .loop .inv .0) (c .loop-test .left)) at (c .before .loop .inv .1)
-
 pub row-sum-spec : {M : Type 1} → statement M
-row-sum-spec =
-    tie.close
-    (tie.spec
-    Inv-loop μ-loop loop-holds (λ c. search needs) (λ c. search needs) (λ c. search needs) (λ c. search needs)
-    (λ c κs. search needs) (λ c. search needs) (λ c. search needs) loop-again returns)
+unfolding neg ofBits rowSum sumTo
+row-sum-spec = tie.close (tie.spec
+    Inv-loop μ-loop (λ c. (omega arith, refl)) (λ c. search needs) (λ c. search needs) (λ c. search needs) (λ c. search needs)
+    (λ c κs. search needs) (λ c. search needs) (λ c. search needs)
+    (λ c. (omega arith, rw (add-one, c .abs .ensures, c .before .before .before .loop .inv .1)))
+    (λ c. rw (le-antisymm (c .before .loop .inv .0) (c .loop-test .left)) at (c .before .loop .inv .1)))

@@ -16,21 +16,14 @@ Inv-loop sum₀ term m i₀ sum i = (i ≤ m) × (sum ≡ updated i (λ i r. row
 abbrev μ-loop : tie.MeasureT-loop
 μ-loop sum₀ term m i₀ sum i = m - i
 
-loop-holds : tie.Need-loop-holds Inv-loop μ-loop
-unfolding updated updatedFrom
-loop-holds c = (omega arith, refl)
-
 loop-again : tie.Need-loop-again Inv-loop μ-loop
 loop-again c =
     let at-loop = c .before .before .before .before in
     (omega arith, updated-more _ [] _ _ (at-loop .loop .inv .1) (c .added .ensures))
 
-returns : tie.Need-returns Inv-loop μ-loop
-returns c = updated-all _ _ _ _ (c .before .loop .inv .0) (c .loop-test .left) (c .before .loop .inv .1)
-
 pub add-term-spec : {M : Type 1} → statement M
-add-term-spec =
-    tie.close
-    (tie.spec
-    Inv-loop μ-loop loop-holds (λ c. search needs) (λ c. search needs) (λ c. search needs) (λ c. search needs)
-    (λ c κs. search needs) (λ c. search needs) (λ c. search needs) (λ c. search needs) (λ c. search needs) loop-again returns)
+unfolding updated updatedFrom
+add-term-spec = tie.close (tie.spec
+    Inv-loop μ-loop (λ c. (omega arith, refl)) (λ c. search needs) (λ c. search needs) (λ c. search needs) (λ c. search needs)
+    (λ c κs. search needs) (λ c. search needs) (λ c. search needs) (λ c. search needs) (λ c. search needs) loop-again
+    (λ c. updated-all _ _ _ _ (c .before .loop .inv .0) (c .loop-test .left) (c .before .loop .inv .1)))

@@ -15,20 +15,10 @@ Inv-loop a₀ m i₀ a i = (i ≤ m) × (a ≡ updated i (λ i r. rowHalf r) a�
 abbrev μ-loop : tie.MeasureT-loop
 μ-loop a₀ m i₀ a i = m - i
 
-loop-holds : tie.Need-loop-holds Inv-loop μ-loop
-unfolding updated updatedFrom
-loop-holds c = (omega arith, refl)
-
-loop-again : tie.Need-loop-again Inv-loop μ-loop
-loop-again c =
-    (omega arith, updated-more _ [] _ _ (c .before .before .before .loop .inv .1) (c .halved .ensures))
-
-returns : tie.Need-returns Inv-loop μ-loop
-returns c = updated-all _ _ _ _ (c .before .loop .inv .0) (c .loop-test .left) (c .before .loop .inv .1)
-
 pub halve-spec : {M : Type 1} → statement M
-halve-spec =
-    tie.close
-    (tie.spec
-    Inv-loop μ-loop loop-holds (λ c. search needs) (λ c. search needs) (λ c κs. search needs) (λ c. search needs)
-    (λ c. search needs) (λ c. search needs) (λ c. search needs) loop-again returns)
+unfolding updated updatedFrom
+halve-spec = tie.close (tie.spec
+    Inv-loop μ-loop (λ c. (omega arith, refl)) (λ c. search needs) (λ c. search needs) (λ c κs. search needs)
+    (λ c. search needs) (λ c. search needs) (λ c. search needs) (λ c. search needs)
+    (λ c. (omega arith, updated-more _ [] _ _ (c .before .before .before .loop .inv .1) (c .halved .ensures)))
+    (λ c. updated-all _ _ _ _ (c .before .loop .inv .0) (c .loop-test .left) (c .before .loop .inv .1)))

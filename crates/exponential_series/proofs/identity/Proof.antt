@@ -19,20 +19,11 @@ Inv-loop m r₀ i₀ r i = (i ≤ m) × (r ≡ updated i (λ i r. set r i one) z
 abbrev μ-loop : tie.MeasureT-loop
 μ-loop m r₀ i₀ r i = m - i
 
-loop-holds : tie.Need-loop-holds Inv-loop μ-loop
-unfolding updated updatedFrom ofBits
-loop-holds c = (omega arith, refl)
-
-loop-again : tie.Need-loop-again Inv-loop μ-loop
-unfolding ofBits
-loop-again c = (omega arith, updated-more _ [] _ _ (c .before .loop .inv .1) refl)
-
 returns : tie.Need-returns Inv-loop μ-loop
 returns c = identity-made _ (c .before .before .pre) (updated-all _ _ _ _ (c .before .loop .inv .0) (c .loop-test .left) (c .before .loop .inv .1))
 
 pub identity-spec : {M : Type 1} → statement M
-identity-spec =
-    tie.close
-    (tie.spec
-    Inv-loop μ-loop loop-holds (λ c. search needs) (λ c. search needs) (λ c. search needs) (λ c. search needs) (λ c. search needs)
-    (λ c. search needs) loop-again returns)
+unfolding ofBits updated updatedFrom
+identity-spec = tie.close (tie.spec
+    Inv-loop μ-loop (λ c. (omega arith, refl)) (λ c. search needs) (λ c. search needs) (λ c. search needs) (λ c. search needs)
+    (λ c. search needs) (λ c. search needs) (λ c. (omega arith, updated-more _ [] _ _ (c .before .loop .inv .1) refl)) returns)

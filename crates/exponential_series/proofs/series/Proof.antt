@@ -28,12 +28,8 @@ loop-again c =
     let t = term-more (s .args .m) (s .pre) (l .k) (s .args .t1) (l .inv .1) (at-next-term .next-term .ensures) in
     (omega arith, t, sum-more (s .args .m) (s .pre) (l .k) _ (l .inv .2) t (c .add-term .ensures))
 
-returns : tie.Need-returns Inv-loop μ-loop
-returns c = rw (le-antisymm (c .before .loop .inv .0) (c .loop-test .left)) at (c .before .loop .inv .2)
-
 pub series-spec : {M : Type 1} → statement M
-series-spec =
-    tie.close
-    (tie.spec
+series-spec = tie.close (tie.spec
     Inv-loop μ-loop (λ c κs. search needs) loop-holds (λ c. search needs) (λ c. search needs) (λ c κs. search needs)
-    (λ c κs. search needs) (λ c. search needs) (λ c. search needs) loop-again returns)
+    (λ c κs. search needs) (λ c. search needs) (λ c. search needs) loop-again
+    (λ c. rw (le-antisymm (c .before .loop .inv .0) (c .loop-test .left)) at (c .before .loop .inv .2)))

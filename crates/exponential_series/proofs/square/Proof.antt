@@ -16,20 +16,10 @@ Inv-loop p m out₀ i₀ out i = (i ≤ m) × (out ≡ updated i (λ i r. rowTim
 abbrev μ-loop : tie.MeasureT-loop
 μ-loop p m out₀ i₀ out i = m - i
 
-loop-holds : tie.Need-loop-holds Inv-loop μ-loop
-unfolding updated updatedFrom
-loop-holds c = (omega arith, refl)
-
-loop-again : tie.Need-loop-again Inv-loop μ-loop
-loop-again c =
-    (omega arith, updated-more _ [] _ _ (c .before .before .before .loop .inv .1) (c .times .ensures))
-
-returns : tie.Need-returns Inv-loop μ-loop
-returns c = updated-all _ _ _ _ (c .before .loop .inv .0) (c .loop-test .left) (c .before .loop .inv .1)
-
 pub square-spec : {M : Type 1} → statement M
-square-spec =
-    tie.close
-    (tie.spec
-    Inv-loop μ-loop loop-holds (λ c. search needs) (λ c. search needs) (λ c κs. search needs) (λ c. search needs)
-    (λ c. search needs) (λ c. search needs) (λ c. search needs) loop-again returns)
+unfolding updated updatedFrom
+square-spec = tie.close (tie.spec
+    Inv-loop μ-loop (λ c. (omega arith, refl)) (λ c. search needs) (λ c. search needs) (λ c κs. search needs)
+    (λ c. search needs) (λ c. search needs) (λ c. search needs) (λ c. search needs)
+    (λ c. (omega arith, updated-more _ [] _ _ (c .before .before .before .loop .inv .1) (c .times .ensures)))
+    (λ c. updated-all _ _ _ _ (c .before .loop .inv .0) (c .loop-test .left) (c .before .loop .inv .1)))

@@ -48,8 +48,6 @@ returns c =
     rw e at (l .inv .1)
 
 pub squared-spec : {M : Type 1} → statement M
-squared-spec =
-    tie.close
-    (tie.spec
+squared-spec = tie.close (tie.spec
     Inv-loop μ-loop (λ c κs. search needs) loop-holds (λ c κs. search needs) (λ c κs. search needs) (λ c. search needs)
     (λ c. search needs) loop-again returns)

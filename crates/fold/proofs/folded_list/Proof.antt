@@ -12,7 +12,5 @@ returns c =
     (at-folded .folded .ensures .0) (at-folded .folded .ensures .1 .0) (c .list-of .ensures))
 
 pub folded-list-spec : {M : Type 1} → statement M
-folded-list-spec =
-    tie.close
-    (tie.spec
+folded-list-spec = tie.close (tie.spec
     (λ c κs. search needs) (λ c κs. search needs) (λ c κs. search needs) returns)

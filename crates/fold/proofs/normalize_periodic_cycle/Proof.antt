@@ -5,9 +5,6 @@ use Rattle.fold.proofs.Listing.{over-count, over-samples, kernel-refuse
 use Rattle.fold.proofs.normalize_periodic_cycle.Statement.{statement}
 use Rattle.fold.proofs.normalize_periodic_cycle.Tie as tie
 
-returns : tie.Need-returns
-returns c = rw (over-count _ _ _ _ _ (lt-leb _ _ (c .before .if1 .taken))) (c .refused-cycle .ensures)
-
 returns-2 : tie.Need-returns-2
 returns-2 c = rw (over-samples _ _ _ _ _ (le-leb _ _ (c .before .before .if1 .left)) (lt-leb _ _ (c .before .if2 .taken))) (c .refused-cycle2 .ensures)
 
@@ -30,8 +27,7 @@ returns-4 c =
     .ensures)
 
 pub normalize-periodic-cycle-spec : {M : Type 1} → statement M
-normalize-periodic-cycle-spec =
-    tie.close
-    (tie.spec
-    (λ c κs. search needs) returns (λ c κs. search needs) returns-2 (λ c κs. search needs) (λ c. search needs)
-    (λ c κs. search needs) (λ c. search needs) (λ c κs. search needs) (λ c κs. search needs) returns-3 returns-4)
+normalize-periodic-cycle-spec = tie.close (tie.spec
+    (λ c κs. search needs) (λ c. rw (over-count _ _ _ _ _ (lt-leb _ _ (c .before .if1 .taken))) (c .refused-cycle .ensures))
+    (λ c κs. search needs) returns-2 (λ c κs. search needs) (λ c. search needs) (λ c κs. search needs) (λ c. search needs)
+    (λ c κs. search needs) (λ c κs. search needs) returns-3 returns-4)

@@ -22,8 +22,6 @@ returns-2 c =
     (not-false _ (at-if1 .if1 .left)) (at-stop-of .stop-of .ensures) (at-has-stop .has-stop .ensures))
 
 pub infusion-spec : {M : Type 1} → statement M
-infusion-spec =
-    tie.close
-    (tie.spec
+infusion-spec = tie.close (tie.spec
     (λ c κs. search needs) (λ c κs. search needs) returns (λ c κs. search needs) (λ c κs. search needs) (λ c κs. search needs)
     returns-2)

@@ -19,8 +19,6 @@ returns-3 c =
     replies-same _ _ _ (c .copied2 .ensures) (reset-copied _ _ _ (c .before .before .before .enum-told2 .given .1))
 
 pub pieces-spec : {M : Type 1} → statement M
-pieces-spec =
-    tie.close
-    (tie.spec
+pieces-spec = tie.close (tie.spec
     (λ c. search needs) (λ c κs. search needs) (λ c. search needs) (λ c κs. search needs) (λ c. search needs)
     (λ c κs. search needs) returns returns-2 returns-3)

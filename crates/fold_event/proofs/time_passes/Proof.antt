@@ -4,12 +4,7 @@ use Rattle.cycle.specs.Fold.{timePasses}
 use Rattle.fold_event.proofs.time_passes.Statement.{statement}
 use Rattle.fold_event.proofs.time_passes.Tie as tie
 
-returns : tie.Need-returns
-unfolding timePasses
-returns c = rw (c .before .before .is-finite .ensures)
-
 pub time-passes-spec : {M : Type 1} → statement M
-time-passes-spec =
-    tie.close
-    (tie.spec
-    (λ c κs. search needs) returns)
+unfolding timePasses
+time-passes-spec = tie.close (tie.spec
+    (λ c κs. search needs) (λ c. rw (c .before .before .is-finite .ensures)))

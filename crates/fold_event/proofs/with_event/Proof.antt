@@ -51,8 +51,6 @@ returns-4 c =
     (c .before .before .enum-told .given .1) (c .if2 .left)
 
 pub with-event-spec : {M : Type 1} → statement M
-with-event-spec =
-    tie.close
-    (tie.spec
+with-event-spec = tie.close (tie.spec
     (λ c κs. search needs) (λ c κs. search needs) (λ c κs. search needs) (λ c κs. search needs) returns (λ c κs. search needs)
     (λ c. search needs) (λ c κs. search needs) (λ c. search needs) (λ c κs. search needs) returns-2 returns-3 returns-4)

@@ -10,7 +10,5 @@ returns c =
     rw (c .before .before .before .is-finite .ensures, c .before .before .is-finite2 .ensures, c .is-positive .ensures)
 
 pub cycle-passes-spec : {M : Type 1} → statement M
-cycle-passes-spec =
-    tie.close
-    (tie.spec
+cycle-passes-spec = tie.close (tie.spec
     (λ c κs. search needs) (λ c κs. search needs) (λ c κs. search needs) returns)

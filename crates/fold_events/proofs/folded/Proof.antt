@@ -56,9 +56,7 @@ returns-5 c =
     (at-enum-told .enum-told .given .1) (c .before .before .validate .ensures) (c .enum-told2 .given .1))
 
 pub folded-spec : {M : Type 1} → statement M
-folded-spec =
-    tie.close
-    (tie.spec
+folded-spec = tie.close (tie.spec
     (λ c κs. search needs) (λ c κs. search needs) returns (λ c κs. search needs) returns-2 (λ c κs. search needs)
     (λ c. search needs) (λ c κs. search needs) (λ c. search needs) (λ c κs. search needs) (λ c. search needs)
     (λ c κs. search needs) (λ c. search needs) returns-3 returns-4 returns-5)

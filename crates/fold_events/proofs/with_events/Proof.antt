@@ -14,9 +14,6 @@ Inv-loop window reals words count out-reals₀ out-words₀ at₀ i₀ out-reals
 abbrev μ-loop : tie.MeasureT-loop
 μ-loop window reals words count out-reals₀ out-words₀ at₀ i₀ out-reals out-words at i = count - i
 
-loop-holds : tie.Need-loop-holds Inv-loop μ-loop
-loop-holds c = going-start _ _ _ _ _ _ (c .pre .1) (c .pre .2)
-
 returns : tie.Need-returns Inv-loop μ-loop
 returns c =
     let at-with-event = c .before .before .before .before in
@@ -37,8 +34,6 @@ returns-2 c = let g =
     (going-done _ _ _ _ g (c .loop-test .left))
 
 pub with-events-spec : {M : Type 1} → statement M
-with-events-spec =
-    tie.close
-    (tie.spec
-    Inv-loop μ-loop loop-holds (λ c κs. search needs) (λ c. search needs) (λ c κs. search needs) returns (λ c. search needs)
-    (λ c. search needs) (λ c. search needs) loop-again returns-2)
+with-events-spec = tie.close (tie.spec
+    Inv-loop μ-loop (λ c. going-start _ _ _ _ _ _ (c .pre .1) (c .pre .2)) (λ c κs. search needs) (λ c. search needs)
+    (λ c κs. search needs) returns (λ c. search needs) (λ c. search needs) (λ c. search needs) loop-again returns-2)

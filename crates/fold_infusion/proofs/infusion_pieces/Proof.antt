@@ -30,8 +30,6 @@ returns-3 c =
     (at-floor .floor .ensures) (at-is-finite .is-finite .ensures) (not-false _ (at-if2 .if2 .left)))
 
 pub infusion-pieces-spec : {M : Type 1} → statement M
-infusion-pieces-spec =
-    tie.close
-    (tie.spec
+infusion-pieces-spec = tie.close (tie.spec
     (λ c κs. search needs) returns (λ c κs. search needs) (λ c κs. search needs) (λ c κs. search needs) returns-2
     (λ c κs. search needs) returns-3)

@@ -20,7 +20,5 @@ unfolding ofBits
 returns-2 c = let s = c .before in append-same _ _ _ (append-none _ _ _ 0 (s .pre .1) (s .pre .2)) (parts-none _ _ _ _ _ (c .if1 .left)) 2 (omega arith)
 
 pub parts-spec : {M : Type 1} → statement M
-parts-spec =
-    tie.close
-    (tie.spec
+parts-spec = tie.close (tie.spec
     (λ c κs. search needs) (λ c κs. search needs) (λ c κs. search needs) returns returns-2)

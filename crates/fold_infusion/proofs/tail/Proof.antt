@@ -5,17 +5,8 @@ use Rattle.fold_stop.proofs.Appending.{append-none}
 use Rattle.fold_infusion.proofs.tail.Statement.{statement}
 use Rattle.fold_infusion.proofs.tail.Tie as tie
 
-returns : tie.Need-returns
-unfolding ofBits
-returns c =
-    rw (c .before .before .before .if1 .taken) (c .push-piece .ensures)
-
-returns-2 : tie.Need-returns-2
-unfolding ofBits
-returns-2 c = let s = c .before in rw (c .if1 .left) (append-none _ _ _ 1 (s .pre .1) (s .pre .2))
-
 pub tail-spec : {M : Type 1} → statement M
-tail-spec =
-    tie.close
-    (tie.spec
-    (λ c κs. search needs) returns returns-2)
+unfolding ofBits
+tail-spec = tie.close (tie.spec
+    (λ c κs. search needs) (λ c. rw (c .before .before .before .if1 .taken) (c .push-piece .ensures))
+    (λ c. let s = c .before in rw (c .if1 .left) (append-none _ _ _ 1 (s .pre .1) (s .pre .2))))

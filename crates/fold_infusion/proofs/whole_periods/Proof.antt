@@ -21,7 +21,5 @@ returns-2 c =
     append-same _ _ _ (c .parts2 .ensures) (wholes-none _ _ _ _ _ _ (c .before .before .before .if1 .left)) 3 (omega arith)
 
 pub whole-periods-spec : {M : Type 1} → statement M
-whole-periods-spec =
-    tie.close
-    (tie.spec
+whole-periods-spec = tie.close (tie.spec
     (λ c κs. search needs) (λ c. search needs) (λ c κs. search needs) returns (λ c κs. search needs) returns-2)

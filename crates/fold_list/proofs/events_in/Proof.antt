@@ -20,21 +20,14 @@ Inv-loop list found₀ i₀ found i = (i ≤ mostEvents) × (found ≡ fill most
 abbrev μ-loop : tie.MeasureT-loop
 μ-loop list found₀ i₀ found i = mostEvents - i
 
-loop-holds : tie.Need-loop-holds Inv-loop μ-loop
-unfolding fill fillFrom
-loop-holds c = (omega arith, rw (c .no-event .ensures))
-
-loop-again : tie.Need-loop-again Inv-loop μ-loop
-loop-again c = (omega arith, fill-more _ _ _ _ (c .before .before .loop .inv .1) refl (omega arith))
-
 returns : tie.Need-returns Inv-loop μ-loop
 returns c =
     filled _ _ _ _ (c .before .loop .inv .0) (c .loop-test .left) (c .before .loop .inv .1)
     ∙ all-events (c .before .before .before .args .t1) (record { event = Bolus nan 0 nan }) mostEvents (search needs)
 
 pub events-in-spec : {M : Type 1} → statement M
-events-in-spec =
-    tie.close
-    (tie.spec
-    Inv-loop μ-loop (λ c κs. search needs) loop-holds (λ c. search needs) (λ c. search needs) (λ c. search needs) (λ c. search needs)
-    (λ c. search needs) (λ c. search needs) loop-again returns)
+unfolding fill fillFrom
+events-in-spec = tie.close (tie.spec
+    Inv-loop μ-loop (λ c κs. search needs) (λ c. (omega arith, rw (c .no-event .ensures))) (λ c. search needs)
+    (λ c. search needs) (λ c. search needs) (λ c. search needs) (λ c. search needs) (λ c. search needs)
+    (λ c. (omega arith, fill-more _ _ _ _ (c .before .before .loop .inv .1) refl (omega arith))) returns)

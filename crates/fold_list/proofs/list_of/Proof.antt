@@ -24,16 +24,12 @@ loop-holds : tie.Need-loop-holds Inv-loop μ-loop
 unfolding fill fillFrom
 loop-holds c = (omega arith, rw (c .no-event .ensures))
 
-loop-again : tie.Need-loop-again Inv-loop μ-loop
-loop-again c = (omega arith, fill-more _ _ _ _ (c .before .before .loop .inv .1) (c .place-at .ensures) (omega arith))
-
 returns : tie.Need-returns Inv-loop μ-loop
 unfolding filled
 returns c = all-filled _ _ _ _ (c .before .loop .inv .0) (c .loop-test .left) (c .before .loop .inv .1)
 
 pub list-of-spec : {M : Type 1} → statement M
-list-of-spec =
-    tie.close
-    (tie.spec
+list-of-spec = tie.close (tie.spec
     Inv-loop μ-loop (λ c κs. search needs) loop-holds (λ c κs. search needs) (λ c. search needs) (λ c. search needs)
-    (λ c. search needs) (λ c. search needs) loop-again returns)
+    (λ c. search needs) (λ c. search needs)
+    (λ c. (omega arith, fill-more _ _ _ _ (c .before .before .loop .inv .1) (c .place-at .ensures) (omega arith))) returns)

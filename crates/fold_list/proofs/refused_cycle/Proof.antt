@@ -4,11 +4,6 @@ use Rattle.fold_list.proofs.Listing.{refused-answer}
 use Rattle.fold_list.proofs.refused_cycle.Statement.{statement}
 use Rattle.fold_list.proofs.refused_cycle.Tie as tie
 
-returns : tie.Need-returns
-returns c = refused-answer _ (c .no-event .ensures)
-
 pub refused-cycle-spec : {M : Type 1} → statement M
-refused-cycle-spec =
-    tie.close
-    (tie.spec
-    (λ c κs. search needs) returns)
+refused-cycle-spec = tie.close (tie.spec
+    (λ c κs. search needs) (λ c. refused-answer _ (c .no-event .ensures)))

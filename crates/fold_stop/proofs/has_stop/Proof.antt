@@ -18,9 +18,6 @@ Inv-loop target reals words count found₀ k₀ found k =
 abbrev μ-loop : tie.MeasureT-loop
 μ-loop target reals words count found₀ k₀ found k = count - k
 
-loop-holds : tie.Need-loop-holds Inv-loop μ-loop
-loop-holds c = (omega arith, any-start _ _ _ _)
-
 loop-again : tie.Need-loop-again Inv-loop μ-loop
 loop-again c =
     let at-loop = c .before .before .before in (
@@ -33,8 +30,6 @@ returns : tie.Need-returns Inv-loop μ-loop
 returns c = any-done _ _ _ _ (c .before .loop .k) (c .before .loop .found) (c .loop-test .left) (c .before .loop .inv .1)
 
 pub has-stop-spec : {M : Type 1} → statement M
-has-stop-spec =
-    tie.close
-    (tie.spec
-    Inv-loop μ-loop loop-holds (λ c κs. search needs) (λ c κs. search needs) (λ c. search needs) (λ c. search needs) loop-again
-    returns)
+has-stop-spec = tie.close (tie.spec
+    Inv-loop μ-loop (λ c. (omega arith, any-start _ _ _ _)) (λ c κs. search needs) (λ c κs. search needs) (λ c. search needs)
+    (λ c. search needs) loop-again returns)

@@ -16,9 +16,6 @@ Inv-loop period time target until reals words count stop₀ k₀ stop k =
 abbrev μ-loop : tie.MeasureT-loop
 μ-loop period time target until reals words count stop₀ k₀ stop k = count - k
 
-loop-holds : tie.Need-loop-holds Inv-loop μ-loop
-loop-holds c = (omega arith, stop-start _ _ _ _ _ _ _)
-
 loop-again : tie.Need-loop-again Inv-loop μ-loop
 loop-again c =
     let at-loop = c .before .before .before in (
@@ -31,8 +28,6 @@ returns : tie.Need-returns Inv-loop μ-loop
 returns c = stop-done _ _ _ _ _ _ (c .before .loop .k) (c .before .loop .stop) (c .loop-test .left) (c .before .loop .inv .1)
 
 pub stop-of-spec : {M : Type 1} → statement M
-stop-of-spec =
-    tie.close
-    (tie.spec
-    Inv-loop μ-loop loop-holds (λ c κs. search needs) (λ c κs. search needs) (λ c. search needs) (λ c. search needs) loop-again
-    returns)
+stop-of-spec = tie.close (tie.spec
+    Inv-loop μ-loop (λ c. (omega arith, stop-start _ _ _ _ _ _ _)) (λ c κs. search needs) (λ c κs. search needs)
+    (λ c. search needs) (λ c. search needs) loop-again returns)

@@ -10,11 +10,7 @@ returns c =
     rw (← at-if1 .before .stopping .ensures, at-if1 .if1 .taken) (rw (c .before .next-time .ensures, c .before .before .time-of .ensures) at
     (c .earlier .ensures))
 
-returns-2 : tie.Need-returns-2
-returns-2 c = rw (← c .before .stopping .ensures, c .if1 .left)
-
 pub stopped-by-spec : {M : Type 1} → statement M
-stopped-by-spec =
-    tie.close
-    (tie.spec
-    (λ c κs. search needs) (λ c κs. search needs) (λ c κs. search needs) (λ c κs. search needs) returns returns-2)
+stopped-by-spec = tie.close (tie.spec
+    (λ c κs. search needs) (λ c κs. search needs) (λ c κs. search needs) (λ c κs. search needs) returns
+    (λ c. rw (← c .before .stopping .ensures, c .if1 .left)))

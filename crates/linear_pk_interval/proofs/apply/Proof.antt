@@ -12,9 +12,6 @@ use Rattle.linear_pk_interval.proofs.apply.Tie as tie
 returns : tie.Need-returns
 returns c = rw (applied-at _ _ _ _ _ (c .before .inputs-finite .ensures) refl refl, not-true (c .before .inputs-finite .result) (c .if1 .taken)) (refl, refl)
 
-slice-aggregate-after : tie.Need-slice-aggregate-after
-slice-aggregate-after c = sym (ap length (c .before .amounts-after .ensures) ∙ tabulate-length _ _)
-
 returns-2 : tie.Need-returns-2
 returns-2 c =
     let at-amounts-after = c .before .before .before in
@@ -49,8 +46,7 @@ returns-3 c =
     ) (refl, c .before .before .lay .ensures)
 
 pub apply-spec : {M : Type 1} → statement M
-apply-spec =
-    tie.close
-    (tie.spec
-    (λ c κs. search needs) returns (λ c κs. search needs) (λ c. search needs) slice-aggregate-after (λ c κs. search needs)
-    returns-2 lay-requires (λ c. search needs) returns-3)
+apply-spec = tie.close (tie.spec
+    (λ c κs. search needs) returns (λ c κs. search needs) (λ c. search needs)
+    (λ c. sym (ap length (c .before .amounts-after .ensures) ∙ tabulate-length _ _)) (λ c κs. search needs) returns-2
+    lay-requires (λ c. search needs) returns-3)

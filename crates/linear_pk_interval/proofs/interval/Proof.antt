@@ -40,8 +40,6 @@ returns-5 c =
     (e .propagator .ensures)))) (c .before .before .apply .ensures)
 
 pub interval-spec : {M : Type 1} → statement M
-interval-spec =
-    tie.close
-    (tie.spec
+interval-spec = tie.close (tie.spec
     (λ c κs. search needs) (λ c. search needs) returns (λ c κs. search needs) (λ c. search needs) (λ c. search needs)
     (λ c. search needs) (λ c. search needs) (λ c κs. search needs) returns-2 returns-3 returns-4 (λ c. search needs) returns-5)

@@ -4,15 +4,8 @@ use borrow.Author.Tests.{eq-eqb, ne-eqb}
 use Rattle.linear_pk_mammillary.proofs.central_rate.Statement.{statement}
 use Rattle.linear_pk_mammillary.proofs.central_rate.Tie as tie
 
-returns : tie.Need-returns
-returns c = rw (eq-eqb _ _ (c .before .if1 .taken)) (c .diagonal .ensures)
-
-returns-2 : tie.Need-returns-2
-returns-2 c = rw (ne-eqb _ _ (c .before .before .if1 .left))
-
 pub central-rate-spec : {M : Type 1} → statement M
-central-rate-spec =
-    tie.close
-    (tie.spec
-    (λ c κs. search needs) returns (λ c. search needs) (λ c. search needs) (λ c. search needs) (λ c. search needs)
-    (λ c. search needs) (λ c. search needs) returns-2)
+central-rate-spec = tie.close (tie.spec
+    (λ c κs. search needs) (λ c. rw (eq-eqb _ _ (c .before .if1 .taken)) (c .diagonal .ensures)) (λ c. search needs)
+    (λ c. search needs) (λ c. search needs) (λ c. search needs) (λ c. search needs) (λ c. search needs)
+    (λ c. rw (ne-eqb _ _ (c .before .before .if1 .left))))

@@ -16,21 +16,9 @@ Inv-loop clearance volumes exchange sum₀ e₀ sum e = (e ≤ length exchange) 
 abbrev μ-loop : tie.MeasureT-loop
 μ-loop clearance volumes exchange sum₀ e₀ sum e = length exchange - e
 
-loop-holds : tie.Need-loop-holds Inv-loop μ-loop
-unfolding diagonalTo
-loop-holds c = (omega arith, refl)
-
-loop-again : tie.Need-loop-again Inv-loop μ-loop
-unfolding diagonalTo
-loop-again c =
-    (omega arith, rw (add-one, c .before .before .before .loop .inv .1))
-
-returns : tie.Need-returns Inv-loop μ-loop
-returns c = rw (le-antisymm (c .before .loop .inv .0) (c .loop-test .left)) at (c .before .loop .inv .1)
-
 pub diagonal-spec : {M : Type 1} → statement M
-diagonal-spec =
-    tie.close
-    (tie.spec
-    Inv-loop μ-loop (λ c. search needs) loop-holds (λ c. search needs) (λ c. search needs) (λ c. search needs) (λ c. search needs)
-    (λ c. search needs) loop-again returns)
+unfolding diagonalTo
+diagonal-spec = tie.close (tie.spec
+    Inv-loop μ-loop (λ c. search needs) (λ c. (omega arith, refl)) (λ c. search needs) (λ c. search needs) (λ c. search needs)
+    (λ c. search needs) (λ c. search needs) (λ c. (omega arith, rw (add-one, c .before .before .before .loop .inv .1)))
+    (λ c. rw (le-antisymm (c .before .loop .inv .0) (c .loop-test .left)) at (c .before .loop .inv .1)))

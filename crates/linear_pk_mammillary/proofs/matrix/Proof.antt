@@ -18,19 +18,12 @@ Inv-loop clearance volumes exchange depot absorption n list₀ c₀ list c =
 abbrev μ-loop : tie.MeasureT-loop
 μ-loop clearance volumes exchange depot absorption n list₀ c₀ list c = rateCells - c
 
-loop-holds : tie.Need-loop-holds Inv-loop μ-loop
-unfolding fill fillFrom ofBits
-loop-holds c = (omega arith, refl)
-
 loop-again : tie.Need-loop-again Inv-loop μ-loop
 loop-again c = (omega arith, fill-more _ _ _ _ (c .before .before .loop .inv .1) (c .padded-rate .ensures) (omega arith))
 
-returns : tie.Need-returns Inv-loop μ-loop
-returns c = filled _ _ _ _ (c .before .loop .inv .0) (c .loop-test .left) (c .before .loop .inv .1)
-
 pub matrix-spec : {M : Type 1} → statement M
-matrix-spec =
-    tie.close
-    (tie.spec
-    Inv-loop μ-loop loop-holds (λ c κs. search needs) (λ c. search needs) (λ c. search needs) (λ c. search needs)
-    (λ c. search needs) loop-again returns)
+unfolding fill fillFrom ofBits
+matrix-spec = tie.close (tie.spec
+    Inv-loop μ-loop (λ c. (omega arith, refl)) (λ c κs. search needs) (λ c. search needs) (λ c. search needs)
+    (λ c. search needs) (λ c. search needs) loop-again
+    (λ c. filled _ _ _ _ (c .before .loop .inv .0) (c .loop-test .left) (c .before .loop .inv .1)))

@@ -17,20 +17,9 @@ Inv-loop matrix n ok₀ i₀ ok i = (i ≤ n) × (ok ≡ allTo (λ i. allTo (λ 
 abbrev μ-loop : tie.MeasureT-loop
 μ-loop matrix n ok₀ i₀ ok i = n - i
 
-loop-holds : tie.Need-loop-holds Inv-loop μ-loop
-unfolding allTo
-loop-holds c = (omega arith, refl)
-
-loop-again : tie.Need-loop-again Inv-loop μ-loop
-unfolding allTo
-loop-again c = (omega arith, rw (add-one, c .row-finite .ensures, c .before .before .loop .inv .1))
-
-returns : tie.Need-returns Inv-loop μ-loop
-returns c = rw (le-antisymm (c .before .loop .inv .0) (c .loop-test .left)) at (c .before .loop .inv .1)
-
 pub matrix-finite-spec : {M : Type 1} → statement M
-matrix-finite-spec =
-    tie.close
-    (tie.spec
-    Inv-loop μ-loop loop-holds (λ c κs. search needs) (λ c. search needs) (λ c. search needs) loop-again
-    returns)
+unfolding allTo
+matrix-finite-spec = tie.close (tie.spec
+    Inv-loop μ-loop (λ c. (omega arith, refl)) (λ c κs. search needs) (λ c. search needs) (λ c. search needs)
+    (λ c. (omega arith, rw (add-one, c .row-finite .ensures, c .before .before .loop .inv .1)))
+    (λ c. rw (le-antisymm (c .before .loop .inv .0) (c .loop-test .left)) at (c .before .loop .inv .1)))

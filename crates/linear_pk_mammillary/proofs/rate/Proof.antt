@@ -42,7 +42,5 @@ returns-5 c =
     (c .peripheral-rate .ensures)
 
 pub rate-spec : {M : Type 1} → statement M
-rate-spec =
-    tie.close
-    (tie.spec
+rate-spec = tie.close (tie.spec
     (λ c κs. search needs) returns returns-2 returns-3 (λ c κs. search needs) returns-4 (λ c κs. search needs) returns-5)

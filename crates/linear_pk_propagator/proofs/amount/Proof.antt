@@ -17,23 +17,16 @@ Inv-loop p n amounts rates duration i sum₀ j₀ sum j = (j ≤ n) × (sum ≡ 
 abbrev μ-loop : tie.MeasureT-loop
 μ-loop p n amounts rates duration i sum₀ j₀ sum j = n - j
 
-loop-holds : tie.Need-loop-holds Inv-loop μ-loop
-unfolding sumTo amountTo ofBits neg
-loop-holds c = (omega arith, refl)
-
 loop-again : tie.Need-loop-again Inv-loop μ-loop
 unfolding sumTo amountTo
 loop-again c =
     let at-loop = c .before .before .before .before .before in
     (omega arith, rw (add-one, at-loop .loop .inv .1))
 
-returns : tie.Need-returns Inv-loop μ-loop
-returns c = rw (le-antisymm (c .before .loop .inv .0) (c .loop-test .left)) at (c .before .loop .inv .1)
-
 pub amount-spec : {M : Type 1} → statement M
-amount-spec =
-    tie.close
-    (tie.spec
-    Inv-loop μ-loop loop-holds (λ c. search needs) (λ c. search needs) (λ c. search needs) (λ c. search needs) (λ c. search needs)
+unfolding amountTo neg ofBits sumTo
+amount-spec = tie.close (tie.spec
+    Inv-loop μ-loop (λ c. (omega arith, refl)) (λ c. search needs) (λ c. search needs) (λ c. search needs) (λ c. search needs)
     (λ c. search needs) (λ c. search needs) (λ c. search needs) (λ c. search needs) (λ c. search needs) (λ c. search needs)
-    (λ c. search needs) (λ c. search needs) (λ c. search needs) (λ c. search needs) loop-again returns)
+    (λ c. search needs) (λ c. search needs) (λ c. search needs) (λ c. search needs) (λ c. search needs) loop-again
+    (λ c. rw (le-antisymm (c .before .loop .inv .0) (c .loop-test .left)) at (c .before .loop .inv .1)))

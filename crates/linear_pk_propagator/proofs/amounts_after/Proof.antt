@@ -17,21 +17,14 @@ Inv-loop p n amounts rates duration list₀ i₀ list i = (i ≤ n) × (list ≡
 abbrev μ-loop : tie.MeasureT-loop
 μ-loop p n amounts rates duration list₀ i₀ list i = n - i
 
-loop-holds : tie.Need-loop-holds Inv-loop μ-loop
-unfolding fill fillFrom ofBits
-loop-holds c = (omega arith, refl)
-
-loop-again : tie.Need-loop-again Inv-loop μ-loop
-loop-again c = (omega arith, fill-more _ _ _ _ (c .before .before .loop .inv .1) (c .amount .ensures) (omega arith))
-
 returns : tie.Need-returns Inv-loop μ-loop
 returns c =
     let start = c .before .before .before .before in
     part-filled _ _ _ _ _ (c .before .loop .inv .0) (c .loop-test .left) (start .pre .0) (c .before .loop .inv .1)
 
 pub amounts-after-spec : {M : Type 1} → statement M
-amounts-after-spec =
-    tie.close
-    (tie.spec
-    Inv-loop μ-loop loop-holds (λ c κs. search needs) (λ c. search needs) (λ c. search needs) (λ c. search needs)
-    (λ c. search needs) loop-again returns)
+unfolding fill fillFrom ofBits
+amounts-after-spec = tie.close (tie.spec
+    Inv-loop μ-loop (λ c. (omega arith, refl)) (λ c κs. search needs) (λ c. search needs) (λ c. search needs)
+    (λ c. search needs) (λ c. search needs)
+    (λ c. (omega arith, fill-more _ _ _ _ (c .before .before .loop .inv .1) (c .amount .ensures) (omega arith))) returns)

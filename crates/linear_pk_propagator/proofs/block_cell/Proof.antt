@@ -23,7 +23,5 @@ unfolding blockCell ofBits
 returns-4 c = rw (lt-ltb _ _ (c .before .before .if1 .left), le-ltb _ _ (c .before .if2 .left), ne-eqb _ _ (c .if3 .left))
 
 pub block-cell-spec : {M : Type 1} → statement M
-block-cell-spec =
-    tie.close
-    (tie.spec
+block-cell-spec = tie.close (tie.spec
     returns (λ c κs. search needs) returns-2 returns-3 returns-4)

@@ -21,19 +21,12 @@ Inv-loop matrix n duration r₀ m i₀ r i = (i ≤ m) × (r ≡ updated i (λ i
 abbrev μ-loop : tie.MeasureT-loop
 μ-loop matrix n duration r₀ m i₀ r i = m - i
 
-loop-holds : tie.Need-loop-holds Inv-loop μ-loop
-unfolding updated updatedFrom ofBits
-loop-holds c = (omega arith, refl)
-
-loop-again : tie.Need-loop-again Inv-loop μ-loop
-loop-again c = (omega arith, updated-more _ [] _ _ (c .before .before .loop .inv .1) (c .block-row .ensures))
-
 returns : tie.Need-returns Inv-loop μ-loop
 returns c = block-made _ _ _ (c .before .before .pre) (updated-all _ _ _ _ (c .before .loop .inv .0) (c .loop-test .left) (c .before .loop .inv .1))
 
 pub block-of-spec : {M : Type 1} → statement M
-block-of-spec =
-    tie.close
-    (tie.spec
-    Inv-loop μ-loop (λ c. search needs) loop-holds (λ c κs. search needs) (λ c. search needs) (λ c. search needs)
-    (λ c. search needs) (λ c. search needs) loop-again returns)
+unfolding ofBits updated updatedFrom
+block-of-spec = tie.close (tie.spec
+    Inv-loop μ-loop (λ c. search needs) (λ c. (omega arith, refl)) (λ c κs. search needs) (λ c. search needs)
+    (λ c. search needs) (λ c. search needs) (λ c. search needs)
+    (λ c. (omega arith, updated-more _ [] _ _ (c .before .before .loop .inv .1) (c .block-row .ensures))) returns)

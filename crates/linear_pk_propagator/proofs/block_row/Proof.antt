@@ -17,19 +17,10 @@ Inv-loop matrix n duration i row₀ j₀ row j = (j ≤ block) × (row ≡ fill 
 abbrev μ-loop : tie.MeasureT-loop
 μ-loop matrix n duration i row₀ j₀ row j = block - j
 
-loop-holds : tie.Need-loop-holds Inv-loop μ-loop
-unfolding fill fillFrom ofBits
-loop-holds c = (omega arith, refl)
-
-loop-again : tie.Need-loop-again Inv-loop μ-loop
-loop-again c = (omega arith, fill-more _ _ _ _ (c .before .before .loop .inv .1) (c .block-cell .ensures) (omega arith))
-
-returns : tie.Need-returns Inv-loop μ-loop
-returns c = filled _ _ _ _ (c .before .loop .inv .0) (c .loop-test .left) (c .before .loop .inv .1)
-
 pub block-row-spec : {M : Type 1} → statement M
-block-row-spec =
-    tie.close
-    (tie.spec
-    Inv-loop μ-loop loop-holds (λ c κs. search needs) (λ c. search needs) (λ c. search needs) (λ c. search needs)
-    (λ c. search needs) loop-again returns)
+unfolding fill fillFrom ofBits
+block-row-spec = tie.close (tie.spec
+    Inv-loop μ-loop (λ c. (omega arith, refl)) (λ c κs. search needs) (λ c. search needs) (λ c. search needs)
+    (λ c. search needs) (λ c. search needs)
+    (λ c. (omega arith, fill-more _ _ _ _ (c .before .before .loop .inv .1) (c .block-cell .ensures) (omega arith)))
+    (λ c. filled _ _ _ _ (c .before .loop .inv .0) (c .loop-test .left) (c .before .loop .inv .1)))

@@ -4,12 +4,8 @@ use Rattle.linear_pk_propagator.specs.Propagator.{propagator}
 use Rattle.linear_pk_propagator.proofs.propagator.Statement.{statement}
 use Rattle.linear_pk_propagator.proofs.propagator.Tie as tie
 
-returns : tie.Need-returns
-unfolding propagator
-returns c = rw (← c .before .before .block-of .ensures .part) (c .exponential .ensures)
-
 pub propagator-spec : {M : Type 1} → statement M
-propagator-spec =
-    tie.close
-    (tie.spec
-    (λ c κs. search needs) (λ c. search needs) (λ c κs. search needs) returns)
+unfolding propagator
+propagator-spec = tie.close (tie.spec
+    (λ c κs. search needs) (λ c. search needs) (λ c κs. search needs)
+    (λ c. rw (← c .before .before .block-of .ensures .part) (c .exponential .ensures)))

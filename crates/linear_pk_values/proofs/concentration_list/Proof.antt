@@ -17,10 +17,6 @@ Inv-loop depot volumes amounts count list₀ i₀ list i = (i ≤ count) × (lis
 abbrev μ-loop : tie.MeasureT-loop
 μ-loop depot volumes amounts count list₀ i₀ list i = count - i
 
-loop-holds : tie.Need-loop-holds Inv-loop μ-loop
-unfolding fill fillFrom ofBits
-loop-holds c = (omega arith, refl)
-
 loop-again : tie.Need-loop-again Inv-loop μ-loop
 loop-again c = (omega arith, fill-more _ _ _ _ (c .before .before .loop .inv .1) (c .concentration .ensures) (omega arith))
 
@@ -29,8 +25,7 @@ returns c =
     part-filled _ _ _ _ _ (c .before .loop .inv .0) (c .loop-test .left) (c .before .before .before .pre .0) (c .before .loop .inv .1)
 
 pub concentration-list-spec : {M : Type 1} → statement M
-concentration-list-spec =
-    tie.close
-    (tie.spec
-    Inv-loop μ-loop loop-holds (λ c κs. search needs) (λ c. search needs) (λ c. search needs) (λ c. search needs)
-    (λ c. search needs) loop-again returns)
+unfolding fill fillFrom ofBits
+concentration-list-spec = tie.close (tie.spec
+    Inv-loop μ-loop (λ c. (omega arith, refl)) (λ c κs. search needs) (λ c. search needs) (λ c. search needs)
+    (λ c. search needs) (λ c. search needs) loop-again returns)

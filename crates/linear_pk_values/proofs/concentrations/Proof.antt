@@ -49,9 +49,6 @@ array-share-prefix-list c =
     let start = c .before .before .before .before .before .before in
     omega (arith, start .pre .0)
 
-slice-aggregate-values : tie.Need-slice-aggregate-values
-slice-aggregate-values c = sym (ap length (c .before .concentration-list .ensures) ∙ tabulate-length _ _)
-
 returns-3 : tie.Need-returns-3
 returns-3 c =
     let at-concentration-list = c .before .before .before in
@@ -96,8 +93,7 @@ returns-4 c =
     ) (refl, c .before .before .lay .ensures)
 
 pub concentrations-spec : {M : Type 1} → statement M
-concentrations-spec =
-    tie.close
-    (tie.spec
-    (λ c κs. search needs) returns returns-2 concentration-list-requires array-share-prefix-list slice-aggregate-values
-    (λ c κs. search needs) returns-3 lay-requires (λ c. search needs) returns-4)
+concentrations-spec = tie.close (tie.spec
+    (λ c κs. search needs) returns returns-2 concentration-list-requires array-share-prefix-list
+    (λ c. sym (ap length (c .before .concentration-list .ensures) ∙ tabulate-length _ _)) (λ c κs. search needs) returns-3
+    lay-requires (λ c. search needs) returns-4)

@@ -17,7 +17,5 @@ returns c =
     )
 
 pub values-pass-spec : {M : Type 1} → statement M
-values-pass-spec =
-    tie.close
-    (tie.spec
+values-pass-spec = tie.close (tie.spec
     (λ c κs. search needs) (λ c κs. search needs) (λ c κs. search needs) (λ c κs. search needs) (λ c κs. search needs) returns)

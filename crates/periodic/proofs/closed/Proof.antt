@@ -47,8 +47,6 @@ returns-2 c =
     (at-execute-prepared-periodic-steady-state .execute-prepared-periodic-steady-state .ensures)
 
 pub closed-spec : {M : Type 1} → statement M
-closed-spec =
-    tie.close
-    (tie.spec
+closed-spec = tie.close (tie.spec
     (λ c κs. search needs) (λ c κs. search needs) (λ c κs. search needs) (λ c. search needs) (λ c κs. search needs)
     (λ c. search needs) execute-prepared-periodic-steady-state-requires returns (λ c. search needs) (λ c. search needs) returns-2)

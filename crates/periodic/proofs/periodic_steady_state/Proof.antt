@@ -58,9 +58,7 @@ returns-4 c =
     (x .reply, (x .amounts, x .residuals))
 
 pub periodic-steady-state-spec : {M : Type 1} → statement M
-periodic-steady-state-spec =
-    tie.close
-    (tie.spec
+periodic-steady-state-spec = tie.close (tie.spec
     (λ c κs. search needs) returns (λ c κs. search needs) returns-2 (λ c κs. search needs) (λ c. search needs)
     (λ c κs. search needs) (λ c. search needs) (λ c κs. search needs) (λ c κs. search needs) (λ c κs. search needs)
     (λ c κs. search needs) (λ c κs. search needs) returns-3 (λ c. search needs) (λ c. search needs) returns-4)

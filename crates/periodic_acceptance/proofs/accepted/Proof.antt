@@ -12,9 +12,6 @@ use Rattle.periodic_acceptance.proofs.Chain.{candidate-stops, run-stops
 use Rattle.periodic_acceptance.proofs.accepted.Statement.{statement}
 use Rattle.periodic_acceptance.proofs.accepted.Tie as tie
 
-slice-aggregate-all-pass : tie.Need-slice-aggregate-all-pass
-slice-aggregate-all-pass c = sym (length-take-le _ (c .before .args .t8) (omega (arith, c .before .pre .states)))
-
 returns : tie.Need-returns
 unfolding ofBits
 returns c =
@@ -49,8 +46,7 @@ returns-3 c =
     (rw (c .before .before .enum-told .given .1) at (at-last-of .last-of .ensures))
 
 pub accepted-spec : {M : Type 1} → statement M
-accepted-spec =
-    tie.close
-    (tie.spec
-    (λ c. search needs) slice-aggregate-all-pass (λ c κs. search needs) (λ c κs. search needs) returns (λ c κs. search needs)
-    (λ c. search needs) (λ c κs. search needs) (λ c. search needs) (λ c κs. search needs) returns-2 returns-3)
+accepted-spec = tie.close (tie.spec
+    (λ c. search needs) (λ c. sym (length-take-le _ (c .before .args .t8) (omega (arith, c .before .pre .states))))
+    (λ c κs. search needs) (λ c κs. search needs) returns (λ c κs. search needs) (λ c. search needs) (λ c κs. search needs)
+    (λ c. search needs) (λ c κs. search needs) returns-2 returns-3)

@@ -36,8 +36,6 @@ returns-2 c =
     (rw (c .before .enum-told .given .1) at (at-maximum .maximum .ensures)))
 
 pub judged-spec : {M : Type 1} → statement M
-judged-spec =
-    tie.close
-    (tie.spec
+judged-spec = tie.close (tie.spec
     (λ c κs. search needs) (λ c. search needs) (λ c κs. search needs) (λ c. search needs) (λ c κs. search needs) returns
     returns-2)

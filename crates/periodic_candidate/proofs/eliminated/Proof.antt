@@ -29,8 +29,6 @@ returns-2 c =
     ∙ ap (solve (g .n)) (system-is (g .n) (g .columns .now) (at-system .system .result) (take (g .n) (g .offset)) (at-system .system .ensures)))
 
 pub eliminated-spec : {M : Type 1} → statement M
-eliminated-spec =
-    tie.close
-    (tie.spec
+eliminated-spec = tie.close (tie.spec
     (λ c κs. search needs) (λ c κs. search needs) (λ c. search needs) (λ c κs. search needs) (λ c. search needs) returns
     returns-2)

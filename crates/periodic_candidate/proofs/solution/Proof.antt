@@ -64,8 +64,6 @@ eliminated-requires c κs =
     start .pre .0 .states
 
 pub solution-spec : {M : Type 1} → statement M
-solution-spec =
-    tie.close
-    (tie.spec
+solution-spec = tie.close (tie.spec
     (λ c κs. search needs) (λ c. search needs) (λ c κs. search needs) (λ c. search needs) (λ c κs. search needs) columns-requires
     (λ c. search needs) (λ c κs. search needs) (λ c. search needs) eliminated-requires returns returns-2 returns-3)

@@ -5,12 +5,7 @@ use Rattle.cycle.specs.Closed.{divided}
 use Rattle.periodic_inputs.proofs.divided.Statement.{statement}
 use Rattle.periodic_inputs.proofs.divided.Tie as tie
 
-returns : tie.Need-returns
-unfolding divided
-returns c = refl
-
 pub divided-spec : {M : Type 1} → statement M
-divided-spec =
-    tie.close
-    (tie.spec
-    (λ c. search needs) (λ c. search needs) (λ c. search needs) (λ c. search needs) returns)
+unfolding divided
+divided-spec = tie.close (tie.spec
+    (λ c. search needs) (λ c. search needs) (λ c. search needs) (λ c. search needs) (λ c. refl))

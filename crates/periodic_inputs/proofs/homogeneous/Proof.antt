@@ -13,19 +13,10 @@ Inv-loop reals count zeroed₀ i₀ zeroed i = (i ≤ count) × Zeroes reals zer
 abbrev μ-loop : tie.MeasureT-loop
 μ-loop reals count zeroed₀ i₀ zeroed i = count - i
 
-loop-holds : tie.Need-loop-holds Inv-loop μ-loop
-loop-holds c = (omega arith, record { rows = sym (c .real-cells .ensures); held = λ k l. absurd (omega arith) })
-
-loop-again : tie.Need-loop-again Inv-loop μ-loop
-loop-again c = (omega arith, zeroes-more _ _ _ (omega arith) (c .before .before .loop .inv .1) (c .zeroed-row .ensures))
-
-returns : tie.Need-returns Inv-loop μ-loop
-returns c = zeroes-all _ _ _ _ (c .loop-test .left) (c .before .loop .inv .1)
-
 pub homogeneous-spec : {M : Type 1} → statement M
-homogeneous-spec =
-    tie.close
-    (tie.spec
-    Inv-loop μ-loop (λ c κs. search needs) loop-holds (λ c κs. search needs) (λ c. search needs) (λ c. search needs) (λ c. search needs)
-    (λ c. search needs) loop-again
-    returns)
+homogeneous-spec = tie.close (tie.spec
+    Inv-loop μ-loop (λ c κs. search needs)
+    (λ c. (omega arith, record { rows = sym (c .real-cells .ensures); held = λ k l. absurd (omega arith) }))
+    (λ c κs. search needs) (λ c. search needs) (λ c. search needs) (λ c. search needs) (λ c. search needs)
+    (λ c. (omega arith, zeroes-more _ _ _ (omega arith) (c .before .before .loop .inv .1) (c .zeroed-row .ensures)))
+    (λ c. zeroes-all _ _ _ _ (c .loop-test .left) (c .before .loop .inv .1)))

@@ -6,12 +6,7 @@ use Rattle.cycle.specs.Closed.{unit}
 use Rattle.periodic_inputs.proofs.unit.Statement.{statement}
 use Rattle.periodic_inputs.proofs.unit.Tie as tie
 
-returns : tie.Need-returns
-unfolding unit ofBits
-returns c = refl
-
 pub unit-spec : {M : Type 1} → statement M
-unit-spec =
-    tie.close
-    (tie.spec
-    (λ c. search needs) (λ c. search needs) returns)
+unfolding ofBits unit
+unit-spec = tie.close (tie.spec
+    (λ c. search needs) (λ c. search needs) (λ c. refl))

@@ -5,12 +5,8 @@ use lib.Ieee.{ofBits}
 use Rattle.periodic_inputs.proofs.zeroed_row.Statement.{statement}
 use Rattle.periodic_inputs.proofs.zeroed_row.Tie as tie
 
-returns : tie.Need-returns
-unfolding ofBits
-returns c = refl
-
 pub zeroed-row-spec : {M : Type 1} → statement M
-zeroed-row-spec =
-    tie.close
-    (tie.spec
-    (λ c. search needs) (λ c. search needs) (λ c. search needs) (λ c. search needs) (λ c. search needs) (λ c. search needs) returns)
+unfolding ofBits
+zeroed-row-spec = tie.close (tie.spec
+    (λ c. search needs) (λ c. search needs) (λ c. search needs) (λ c. search needs) (λ c. search needs) (λ c. search needs)
+    (λ c. refl))

@@ -57,8 +57,6 @@ returns c =
     (at-simulate .simulate .ensures .1 .1 .1))
 
 pub simulate-cycle-spec : {M : Type 1} → statement M
-simulate-cycle-spec =
-    tie.close
-    (tie.spec
+simulate-cycle-spec = tie.close (tie.spec
     (λ c κs. search needs) (λ c κs. search needs) (λ c. search needs) (λ c. search needs) (λ c κs. search needs)
     (λ c κs. search needs) sub-result mul-result (λ c. search needs) (λ c. search needs) (λ c. search needs) returns)

@@ -64,9 +64,7 @@ returns-4 c =
     )
 
 pub prepare-periodic-steady-state-spec : {M : Type 1} → statement M
-prepare-periodic-steady-state-spec =
-    tie.close
-    (tie.spec
+prepare-periodic-steady-state-spec = tie.close (tie.spec
     (λ c κs. search needs) (λ c κs. search needs) returns (λ c κs. search needs) (λ c. search needs) (λ c κs. search needs)
     (λ c. search needs) (λ c κs. search needs) (λ c. search needs) (λ c. search needs) (λ c κs. search needs) (λ c. search needs)
     (λ c κs. search needs) (λ c. search needs) returns-2 returns-3 returns-4)

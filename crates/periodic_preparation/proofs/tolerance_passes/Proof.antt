@@ -4,9 +4,7 @@ use Rattle.cycle.specs.Closed.{tolerancePasses}
 use Rattle.periodic_preparation.proofs.tolerance_passes.Statement.{statement}
 use Rattle.periodic_preparation.proofs.tolerance_passes.Tie as tie
 
-returns : tie.Need-returns
-unfolding tolerancePasses
-returns c = rw (c .is-nonnegative .ensures, c .before .is-positive .ensures)
-
 pub tolerance-passes-spec : {M : Type 1} → statement M
-tolerance-passes-spec = tie.close (tie.spec (λ c κs. search needs) (λ c κs. search needs) returns)
+unfolding tolerancePasses
+tolerance-passes-spec = tie.close (tie.spec
+    (λ c κs. search needs) (λ c κs. search needs) (λ c. rw (c .is-nonnegative .ensures, c .before .is-positive .ensures)))

@@ -88,9 +88,7 @@ returns-5 c =
     (at-lay .lay .ensures) (c .before .before .lay2 .ensures)
 
 pub execute-prepared-periodic-steady-state-spec : {M : Type 1} → statement M
-execute-prepared-periodic-steady-state-spec =
-    tie.close
-    (tie.spec
+execute-prepared-periodic-steady-state-spec = tie.close (tie.spec
     (λ c κs. search needs) returns (λ c κs. search needs) returns-2 (λ c κs. search needs) (λ c. search needs) (λ c. search needs)
     (λ c κs. search needs) (λ c. search needs) (λ c. search needs) (λ c κs. search needs) (λ c κs. search needs) returns-3 returns-4
     (λ c. search needs) (λ c. search needs) returns-5)

@@ -38,9 +38,7 @@ unfolding residualsOf
 returns c = part-filled _ _ _ _ _ (c .before .loop .inv .0) (c .loop-test .left) (c .before .before .pre) (c .before .loop .inv .1)
 
 pub residuals-spec : {M : Type 1} → statement M
-residuals-spec =
-    tie.close
-    (tie.spec
+residuals-spec = tie.close (tie.spec
     Inv-loop μ-loop loop-holds (λ c. search needs) (λ c. search needs) (λ c. search needs) (λ c. search needs) (λ c. search needs)
     (λ c. search needs) (λ c. search needs) (λ c. search needs)
     loop-again returns)

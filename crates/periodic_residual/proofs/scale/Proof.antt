@@ -11,7 +11,5 @@ returns c =
     rw (c .before .before .max .ensures, at-abs2 .abs2 .ensures, at-abs2 .before .abs .ensures)
 
 pub scale-spec : {M : Type 1} → statement M
-scale-spec =
-    tie.close
-    (tie.spec
+scale-spec = tie.close (tie.spec
     (λ c κs. search needs) (λ c κs. search needs) (λ c κs. search needs) returns)

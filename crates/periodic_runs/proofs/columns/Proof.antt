@@ -20,13 +20,6 @@ Inv-loop kernel n window reals words count columns₀ zeroed j₀ columns j =
 abbrev μ-loop : tie.MeasureT-loop
 μ-loop kernel n window reals words count columns₀ zeroed j₀ columns j = n - j
 
-loop-holds : tie.Need-loop-holds Inv-loop μ-loop
-loop-holds c = (omega arith, c .before .pre .2, columns-none _ _ _ _ (c .before .args .columns .now))
-
-unit-requires : tie.Need-unit-requires Inv-loop μ-loop
-unit-requires c κs =
-    omega (arith, c .before .before .before .pre .0 .states)
-
 last-of-requires : tie.Need-last-of-requires Inv-loop μ-loop
 last-of-requires c κs =
     let at-homogeneous = c .before .before .before .before in
@@ -79,8 +72,8 @@ returns-2 : tie.Need-returns-2 Inv-loop μ-loop
 returns-2 c = columns-all _ _ _ _ (c .before .loop .columns) _ (c .before .loop .inv .2) (c .before .loop .inv .0) (c .loop-test .left)
 
 pub columns-spec : {M : Type 1} → statement M
-columns-spec =
-    tie.close
-    (tie.spec
-    Inv-loop μ-loop (λ c κs. search needs) loop-holds unit-requires last-of-requires (λ c. search needs) returns
+columns-spec = tie.close (tie.spec
+    Inv-loop μ-loop (λ c κs. search needs)
+    (λ c. (omega arith, c .before .pre .2, columns-none _ _ _ _ (c .before .args .columns .now)))
+    (λ c κs. omega (arith, c .before .before .before .pre .0 .states)) last-of-requires (λ c. search needs) returns
     (λ c. search needs) (λ c. search needs) (λ c. search needs) (λ c. search needs) (λ c. search needs) loop-again returns-2)

@@ -40,8 +40,6 @@ returns c =
     inner (g .kernel) (g .n) (g .window) es (g .initial) (start .pre .0) (at-divided .divided .ensures) (r .0) (r .1)
 
 pub last-in-spec : {M : Type 1} → statement M
-last-in-spec =
-    tie.close
-    (tie.spec
+last-in-spec = tie.close (tie.spec
     divided-requires (λ c. search needs) (λ c. search needs) on-schedule-requires (λ c. search needs) (λ c. search needs)
     (λ c. search needs) (λ c. search needs) (λ c. search needs) returns)

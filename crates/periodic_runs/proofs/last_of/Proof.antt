@@ -10,8 +10,6 @@ last-in-requires c κs =
     (start .pre, omega arith, omega arith, omega arith, omega arith, omega arith)
 
 pub last-of-spec : {M : Type 1} → statement M
-last-of-spec =
-    tie.close
-    (tie.spec
+last-of-spec = tie.close (tie.spec
     (λ c κs. search needs) (λ c κs. search needs) (λ c κs. search needs) (λ c κs. search needs) (λ c κs. search needs)
     (λ c. search needs) (λ c. search needs) (λ c. search needs) (λ c. search needs) (λ c. search needs) last-in-requires (λ c. search needs))

@@ -38,8 +38,6 @@ returns-4 c =
     ) (c .prepared .ensures)
 
 pub prepare-simulation-spec : {M : Type 1} → statement M
-prepare-simulation-spec =
-    tie.close
-    (tie.spec
+prepare-simulation-spec = tie.close (tie.spec
     returns returns-2 (λ c κs. search needs) (λ c. search needs) (λ c. search needs) (λ c κs. search needs) (λ c κs. search needs)
     (λ c κs. search needs) returns-3 returns-4)

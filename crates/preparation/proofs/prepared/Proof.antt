@@ -9,9 +9,6 @@ use Rattle.preparation.proofs.Tests.{budget-fails, validate-fails, rows
 use Rattle.preparation.proofs.prepared.Statement.{statement}
 use Rattle.preparation.proofs.prepared.Tie as tie
 
-returns : tie.Need-returns
-returns c = budget-fails _ _ _ _ _ _ (c .if1 .taken)
-
 mul-if2 : tie.Need-mul-if2
 mul-if2 c =
     let s = c .before .before .before .before .before .before in
@@ -34,8 +31,6 @@ returns-4 c =
     prepares _ _ _ _ _ _ (at-validate .before .if1 .left) (rw (c .before .before .enum-told .given .1) at (at-validate .validate .ensures)) (c .if2 .left)
 
 pub prepared-spec : {M : Type 1} → statement M
-prepared-spec =
-    tie.close
-    (tie.spec
-    returns (λ c κs. search needs) (λ c. search needs) (λ c. search needs) (λ c. search needs) (λ c. search needs)
-    (λ c. search needs) mul-if2 returns-2 returns-3 returns-4)
+prepared-spec = tie.close (tie.spec
+    (λ c. budget-fails _ _ _ _ _ _ (c .if1 .taken)) (λ c κs. search needs) (λ c. search needs) (λ c. search needs)
+    (λ c. search needs) (λ c. search needs) (λ c. search needs) mul-if2 returns-2 returns-3 returns-4)

@@ -18,9 +18,6 @@ Inv-loop window samples ok₀ i₀ ok i = (i ≤ length samples) × (ok && all (
 abbrev μ-loop : tie.MeasureT-loop
 μ-loop window samples ok₀ i₀ ok i = length samples - i
 
-loop-holds : tie.Need-loop-holds Inv-loop μ-loop
-loop-holds c = (omega arith, refl)
-
 loop-again : tie.Need-loop-again Inv-loop μ-loop
 loop-again c =
     let at-loop = c .before .before .before in
@@ -37,8 +34,6 @@ returns c =
     (c .before .loop .inv .1)
 
 pub all-within-spec : {M : Type 1} → statement M
-all-within-spec =
-    tie.close
-    (tie.spec
-    Inv-loop μ-loop loop-holds (λ c. search needs) (λ c. search needs) (λ c κs. search needs) (λ c. search needs)
-    (λ c. search needs) loop-again returns)
+all-within-spec = tie.close (tie.spec
+    Inv-loop μ-loop (λ c. (omega arith, refl)) (λ c. search needs) (λ c. search needs) (λ c κs. search needs)
+    (λ c. search needs) (λ c. search needs) loop-again returns)

@@ -15,7 +15,5 @@ returns c =
     )
 
 pub event-passes-spec : {M : Type 1} → statement M
-event-passes-spec =
-    tie.close
-    (tie.spec
+event-passes-spec = tie.close (tie.spec
     (λ c κs. search needs) (λ c κs. search needs) (λ c κs. search needs) (λ c κs. search needs) (λ c κs. search needs) returns)

@@ -18,9 +18,6 @@ Inv-loop n window reals words count ok₀ i₀ ok i =
 abbrev μ-loop : tie.MeasureT-loop
 μ-loop n window reals words count ok₀ i₀ ok i = count - i
 
-loop-holds : tie.Need-loop-holds Inv-loop μ-loop
-loop-holds c = (omega arith, events-start _ _ _ _ _)
-
 loop-again : tie.Need-loop-again Inv-loop μ-loop
 loop-again c = (
   omega arith,
@@ -32,7 +29,6 @@ returns : tie.Need-returns Inv-loop μ-loop
 returns c = events-done _ _ _ _ _ (c .before .loop .i) (c .before .loop .ok) (c .loop-test .left) (c .before .loop .inv .1)
 
 pub events-pass-spec : {M : Type 1} → statement M
-events-pass-spec =
-    tie.close
-    (tie.spec
-    Inv-loop μ-loop loop-holds (λ c κs. search needs) (λ c. search needs) (λ c. search needs) loop-again returns)
+events-pass-spec = tie.close (tie.spec
+    Inv-loop μ-loop (λ c. (omega arith, events-start _ _ _ _ _)) (λ c κs. search needs) (λ c. search needs) (λ c. search needs)
+    loop-again returns)

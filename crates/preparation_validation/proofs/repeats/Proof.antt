@@ -16,21 +16,14 @@ Inv-loop reals words i reset found₀ k₀ found k = (k ≤ i) × (found ≡ any
 abbrev μ-loop : tie.MeasureT-loop
 μ-loop reals words i reset found₀ k₀ found k = i - k
 
-loop-holds : tie.Need-loop-holds Inv-loop μ-loop
-unfolding seen
-loop-holds c = (omega arith, refl)
-
 loop-again : tie.Need-loop-again Inv-loop μ-loop
 unfolding seen
 loop-again c =
     (omega arith, rw (add-one, c .same-reset .ensures, c .before .event-at .ensures, c .before .before .before .loop .inv .1))
 
-returns : tie.Need-returns Inv-loop μ-loop
-returns c = rw (le-antisymm (c .before .loop .inv .0) (c .loop-test .left)) at (c .before .loop .inv .1)
-
 pub repeats-spec : {M : Type 1} → statement M
-repeats-spec =
-    tie.close
-    (tie.spec
-    Inv-loop μ-loop loop-holds (λ c κs. search needs) (λ c κs. search needs) (λ c. search needs) (λ c. search needs) loop-again
-    returns)
+unfolding seen
+repeats-spec = tie.close (tie.spec
+    Inv-loop μ-loop (λ c. (omega arith, refl)) (λ c κs. search needs) (λ c κs. search needs) (λ c. search needs)
+    (λ c. search needs) loop-again
+    (λ c. rw (le-antisymm (c .before .loop .inv .0) (c .loop-test .left)) at (c .before .loop .inv .1)))

@@ -5,9 +5,6 @@ use Rattle.preparation_validation.proofs.Tests.{window-fails, sample-fa
 use Rattle.preparation_validation.proofs.validate.Statement.{statement}
 use Rattle.preparation_validation.proofs.validate.Tie as tie
 
-returns : tie.Need-returns
-returns c = window-fails _ _ _ _ (c .before .window-passes .ensures) (not-true _ (c .if1 .taken))
-
 returns-2 : tie.Need-returns-2
 returns-2 c =
     sample-fails _ _ _ _ (c .before .before .before .window-passes .ensures) (c .before .all-within .ensures)
@@ -28,7 +25,6 @@ returns-4 c =
     (c .before .events-pass .ensures) (not-false _ (c .before .before .if2 .left)) (not-false _ (c .if3 .left))
 
 pub validate-spec : {M : Type 1} → statement M
-validate-spec =
-    tie.close
-    (tie.spec
-    (λ c κs. search needs) returns (λ c κs. search needs) returns-2 (λ c κs. search needs) returns-3 returns-4)
+validate-spec = tie.close (tie.spec
+    (λ c κs. search needs) (λ c. window-fails _ _ _ _ (c .before .window-passes .ensures) (not-true _ (c .if1 .taken)))
+    (λ c κs. search needs) returns-2 (λ c κs. search needs) returns-3 returns-4)

@@ -3,9 +3,6 @@ use borrow.Author.Needs.{needs}
 use Rattle.preparation_validation.proofs.values_pass.Statement.{statement}
 use Rattle.preparation_validation.proofs.values_pass.Tie as tie
 
-returns : tie.Need-returns
-returns c = rw (c .before .before .event .given .1) (c .is-nonnegative .ensures)
-
 returns-2 : tie.Need-returns-2
 returns-2 c =
     let at-is-nonnegative2 = c .before .before .before in
@@ -16,13 +13,9 @@ returns-2 c =
       c .is-finite .ensures,
     )
 
-returns-3 : tie.Need-returns-3
-returns-3 c =
-    rw (c .before .before .before .event3 .given .1, c .before .is-finite2 .ensures, c .repeats .ensures)
-
 pub values-pass-spec : {M : Type 1} → statement M
-values-pass-spec =
-    tie.close
-    (tie.spec
+values-pass-spec = tie.close (tie.spec
     (λ c. search needs) (λ c κs. search needs) (λ c. search needs) (λ c κs. search needs) (λ c κs. search needs)
-    (λ c κs. search needs) (λ c. search needs) (λ c κs. search needs) (λ c κs. search needs) returns returns-2 returns-3)
+    (λ c κs. search needs) (λ c. search needs) (λ c κs. search needs) (λ c κs. search needs)
+    (λ c. rw (c .before .before .event .given .1) (c .is-nonnegative .ensures)) returns-2
+    (λ c. rw (c .before .before .before .event3 .given .1, c .before .is-finite2 .ensures, c .repeats .ensures)))

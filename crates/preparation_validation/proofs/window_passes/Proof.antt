@@ -9,7 +9,5 @@ returns c =
     rw (at-is-finite2 .before .is-finite .ensures, at-is-finite2 .is-finite2 .ensures, c .before .is-positive .ensures, c .is-positive2 .ensures)
 
 pub window-passes-spec : {M : Type 1} → statement M
-window-passes-spec =
-    tie.close
-    (tie.spec
+window-passes-spec = tie.close (tie.spec
     (λ c κs. search needs) (λ c κs. search needs) (λ c κs. search needs) (λ c κs. search needs) returns)

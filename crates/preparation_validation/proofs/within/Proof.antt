@@ -3,11 +3,6 @@ use borrow.Author.Needs.{needs}
 use Rattle.preparation_validation.proofs.within.Statement.{statement}
 use Rattle.preparation_validation.proofs.within.Tie as tie
 
-returns : tie.Need-returns
-returns c = rw (c .before .before .is-finite .ensures)
-
 pub within-spec : {M : Type 1} → statement M
-within-spec =
-    tie.close
-    (tie.spec
-    (λ c κs. search needs) returns)
+within-spec = tie.close (tie.spec
+    (λ c κs. search needs) (λ c. rw (c .before .before .is-finite .ensures)))

@@ -13,8 +13,6 @@ returns c =
     rw (c .enum-told .given .1) (sym (ne-eqb (refusalNumber (c .enum-told .given .0 .0)) 0
     (λ e. omega (arith, e, refusal-number (c .enum-told .given .0 .0)))))
 
-returns-2 : tie.Need-returns-2
-returns-2 c = rw (c .enum-told2 .given .1) refl
-
 pub is-answer-spec : {M : Type 1} → statement M
-is-answer-spec = tie.close (tie.spec (λ c. search needs) (λ c. search needs) returns returns-2)
+is-answer-spec = tie.close (tie.spec
+    (λ c. search needs) (λ c. search needs) returns (λ c. rw (c .enum-told2 .given .1) refl))

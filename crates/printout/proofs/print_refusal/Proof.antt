@@ -22,8 +22,6 @@ returns c =
     ∙ ap (λ (n : ℕ). refusedText n plusZero) e) (refusal-some _ _) (c .reply-of .ensures .0) (c .reply-of .ensures .1) (p .0) (p .1)
 
 pub print-refusal-spec : {M : Type 1} → statement M
-print-refusal-spec =
-    tie.close
-    (tie.spec
+print-refusal-spec = tie.close (tie.spec
     (λ c κs. search needs) (λ c. search needs) (λ c. search needs) (λ c. search needs) (λ c κs. search needs) (λ c κs. search needs)
     (λ c. search needs) returns)

@@ -50,7 +50,5 @@ returns-3 c =
     (c .before .before .put-refused .ensures)
 
 pub print-run-spec : {M : Type 1} → statement M
-print-run-spec =
-    tie.close
-    (tie.spec
+print-run-spec = tie.close (tie.spec
     (λ c κs. search needs) returns put-run-requires put-refused-requires (λ c. search needs) returns-2 (λ c. search needs) returns-3)

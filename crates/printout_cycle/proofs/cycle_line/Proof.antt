@@ -44,8 +44,6 @@ returns c =
     (at-put-bits .put-bits .ensures)) (c .before .before .put-text .ensures))
 
 pub cycle-line-spec : {M : Type 1} → statement M
-cycle-line-spec =
-    tie.close
-    (tie.spec
+cycle-line-spec = tie.close (tie.spec
     (λ c κs. search needs) put-field-requires-2 put-field-requires-3 (λ c κs. search needs) put-bits-requires
     (λ c. search needs) put-text-requires (λ c. search needs) returns)

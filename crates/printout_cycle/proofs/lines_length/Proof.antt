@@ -3,11 +3,7 @@ use borrow.Author.Needs.{needs}
 use Rattle.printout_cycle.proofs.lines_length.Statement.{statement}
 use Rattle.printout_cycle.proofs.lines_length.Tie as tie
 
-returns : tie.Need-returns
-returns c = rw (c .if1 .taken) (search needs)
-
-returns-2 : tie.Need-returns-2
-returns-2 c = rw (c .if1 .left) (search needs)
-
 pub lines-length-spec : {M : Type 1} → statement M
-lines-length-spec = tie.close (tie.spec (λ c. search needs) (λ c. search needs) (λ c. search needs) (λ c. search needs) returns returns-2)
+lines-length-spec = tie.close (tie.spec
+    (λ c. search needs) (λ c. search needs) (λ c. search needs) (λ c. search needs) (λ c. rw (c .if1 .taken) (search needs))
+    (λ c. rw (c .if1 .left) (search needs)))

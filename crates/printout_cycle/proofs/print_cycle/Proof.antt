@@ -41,7 +41,5 @@ returns-2 c =
     (at-put-lines .put-lines .ensures) (c .before .before .put-verdict .ensures)
 
 pub print-cycle-spec : {M : Type 1} → statement M
-print-cycle-spec =
-    tie.close
-    (tie.spec
+print-cycle-spec = tie.close (tie.spec
     (λ c κs. search needs) (λ c κs. search needs) returns (λ c κs. search needs) put-verdict-requires (λ c. search needs) returns-2)

@@ -19,7 +19,5 @@ returns c =
     wrote-both (at-put-bits .put-bits .ensures) (c .before .before .put-text .ensures)
 
 pub put-field-spec : {M : Type 1} → statement M
-put-field-spec =
-    tie.close
-    (tie.spec
+put-field-spec = tie.close (tie.spec
     (λ c κs. search needs) (λ c. search needs) put-text-requires (λ c. search needs) returns)

@@ -29,7 +29,5 @@ returns-2 c =
     rw (at-if1 .if1 .left) (c .before .before .put-text2 .ensures)
 
 pub put-verdict-spec : {M : Type 1} → statement M
-put-verdict-spec =
-    tie.close
-    (tie.spec
+put-verdict-spec = tie.close (tie.spec
     (λ c. search needs) put-text-requires (λ c. search needs) put-text-requires-2 (λ c. search needs) returns (λ c. search needs) returns-2)

@@ -4,9 +4,7 @@ use borrow.Author.Needs.{needs}
 use Rattle.printout_cycle.proofs.scaled.Statement.{statement}
 use Rattle.printout_cycle.proofs.scaled.Tie as tie
 
-returns : tie.Need-returns
-unfolding scaledOf
-returns c = rw (c .before .abs .ensures, c .scale .ensures)
-
 pub scaled-spec : {M : Type 1} → statement M
-scaled-spec = tie.close (tie.spec (λ c κs. search needs) (λ c κs. search needs) returns)
+unfolding scaledOf
+scaled-spec = tie.close (tie.spec
+    (λ c κs. search needs) (λ c κs. search needs) (λ c. rw (c .before .abs .ensures, c .scale .ensures)))

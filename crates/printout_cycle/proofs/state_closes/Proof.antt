@@ -12,7 +12,5 @@ returns c =
     rw (c .before .before .is-finite .ensures, at-scaled .before .scale .ensures, at-scaled .scaled .ensures, c .before .bits .ensures, c .bits2 .ensures)
 
 pub state-closes-spec : {M : Type 1} → statement M
-state-closes-spec =
-    tie.close
-    (tie.spec
+state-closes-spec = tie.close (tie.spec
     (λ c κs. search needs) (λ c κs. search needs) (λ c κs. search needs) (λ c κs. search needs) (λ c κs. search needs) returns)

@@ -8,10 +8,6 @@ use borrow.Author.Needs.{needs}
 use Rattle.printout_lines.proofs.put_head.Statement.{statement}
 use Rattle.printout_lines.proofs.put_head.Tie as tie
 
-put-text-requires : tie.Need-put-text-requires
-put-text-requires c κs =
-    omega (arith, head-length (c .before .before .before .args .rows))
-
 put-decimal-requires : tie.Need-put-decimal-requires
 put-decimal-requires c κs =
     let rows = c .before .before .before .before .before .before .before .args .rows in
@@ -29,7 +25,6 @@ returns c =
     wrote-both (wrote-both (b .before .before .before .before .put-text .ensures) (b .put-decimal .ensures)) (c .before .before .put-text2 .ensures)
 
 pub put-head-spec : {M : Type 1} → statement M
-put-head-spec =
-    tie.close
-    (tie.spec
-    (λ c. search needs) put-text-requires put-decimal-requires (λ c. search needs) put-text-requires-2 (λ c. search needs) returns)
+put-head-spec = tie.close (tie.spec
+    (λ c. search needs) (λ c κs. omega (arith, head-length (c .before .before .before .args .rows))) put-decimal-requires
+    (λ c. search needs) put-text-requires-2 (λ c. search needs) returns)

@@ -7,9 +7,6 @@ use borrow.Author.Needs.{needs}
 use Rattle.printout_lines.proofs.put_ordered.Statement.{statement}
 use Rattle.printout_lines.proofs.put_ordered.Tie as tie
 
-put-bits-requires : tie.Need-put-bits-requires
-put-bits-requires c κs = omega arith
-
 put-text-requires-2 : tie.Need-put-text-requires-2
 put-text-requires-2 c κs =
     let start = c .before .before .before .before .before .before .before .before .before .before .before .before in
@@ -22,7 +19,6 @@ returns c =
     wrote-both (wrote-both (b .before .before .before .before .put-text .ensures) (b .put-bits .ensures)) (c .before .before .put-text2 .ensures)
 
 pub put-ordered-spec : {M : Type 1} → statement M
-put-ordered-spec =
-    tie.close
-    (tie.spec
-    (λ c. search needs) (λ c κs. search needs) put-bits-requires (λ c. search needs) put-text-requires-2 (λ c. search needs) returns)
+put-ordered-spec = tie.close (tie.spec
+    (λ c. search needs) (λ c κs. search needs) (λ c κs. omega arith) (λ c. search needs) put-text-requires-2 (λ c. search needs)
+    returns)

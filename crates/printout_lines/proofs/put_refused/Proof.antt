@@ -47,8 +47,6 @@ returns c =
     (c .before .before .put-text3 .ensures)
 
 pub put-refused-spec : {M : Type 1} → statement M
-put-refused-spec =
-    tie.close
-    (tie.spec
+put-refused-spec = tie.close (tie.spec
     (λ c. search needs) put-text-requires put-decimal-requires (λ c. search needs) put-text-requires-2 put-bits-requires
     (λ c. search needs) put-text-requires-3 (λ c. search needs) returns)

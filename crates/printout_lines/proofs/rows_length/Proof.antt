@@ -17,10 +17,6 @@ Inv-loop rows n sides sum₀ k₀ sum k = (k ≤ rows) × (sum ≡ rowsLength n 
 abbrev μ-loop : tie.MeasureT-loop
 μ-loop rows n sides sum₀ k₀ sum k = rows - k
 
-loop-holds : tie.Need-loop-holds Inv-loop μ-loop
-unfolding rowsLength
-loop-holds c = (omega arith, refl)
-
 add-sum : tie.Need-add-sum Inv-loop μ-loop
 add-sum c =
     let at-loop = c .before .before .before in
@@ -39,17 +35,10 @@ add-sum-3 c =
     let l = at-loop .loop in
     omega (arith, side-most (getD (g .sides .now) (l .k) 0), rows-most (g .n) (g .sides .now) (l .k) (start .pre .1))
 
-loop-again : tie.Need-loop-again Inv-loop μ-loop
-unfolding rowsLength
-loop-again c =
-    (omega arith, rw (add-one, c .side-length .ensures, c .before .before .before .loop .inv .1))
-
-returns : tie.Need-returns Inv-loop μ-loop
-returns c = rw (le-antisymm (c .before .loop .inv .0) (c .loop-test .left)) at (c .before .loop .inv .1)
-
 pub rows-length-spec : {M : Type 1} → statement M
-rows-length-spec =
-    tie.close
-    (tie.spec
-    Inv-loop μ-loop loop-holds (λ c. search needs) (λ c κs. search needs) add-sum (λ c. search needs) add-sum-2 add-sum-3
-    (λ c. search needs) (λ c. search needs) loop-again returns)
+unfolding rowsLength
+rows-length-spec = tie.close (tie.spec
+    Inv-loop μ-loop (λ c. (omega arith, refl)) (λ c. search needs) (λ c κs. search needs) add-sum (λ c. search needs) add-sum-2
+    add-sum-3 (λ c. search needs) (λ c. search needs)
+    (λ c. (omega arith, rw (add-one, c .side-length .ensures, c .before .before .before .loop .inv .1)))
+    (λ c. rw (le-antisymm (c .before .loop .inv .0) (c .loop-test .left)) at (c .before .loop .inv .1)))

@@ -8,19 +8,11 @@ use borrow.Author.Needs.{needs}
 use Rattle.printout_lines.proofs.run_length.Statement.{statement}
 use Rattle.printout_lines.proofs.run_length.Tie as tie
 
-add-result : tie.Need-add-result
-add-result c =
-    omega (arith, places-most 19 (c .before .before .before .args .rows))
-
 add-result-2 : tie.Need-add-result-2
 add-result-2 c =
     let start = c .before .before .before .before in
     let g = start .args in
     omega (arith, places-most 19 (g .rows), rows-most (g .n) (g .sides .now) (g .rows) (start .pre .1))
-
-add-result-3 : tie.Need-add-result-3
-add-result-3 c =
-    omega (arith, places-most 19 (c .before .before .before .args .number))
 
 returns : tie.Need-returns
 unfolding textLength
@@ -31,7 +23,7 @@ unfolding textLength
 returns-2 c = rw (ne-eqb _ _ (c .before .if1 .left), c .places2 .ensures)
 
 pub run-length-spec : {M : Type 1} → statement M
-run-length-spec =
-    tie.close
-    (tie.spec
-    (λ c κs. search needs) add-result (λ c κs. search needs) add-result-2 (λ c κs. search needs) add-result-3 returns returns-2)
+run-length-spec = tie.close (tie.spec
+    (λ c κs. search needs) (λ c. omega (arith, places-most 19 (c .before .before .before .args .rows))) (λ c κs. search needs)
+    add-result-2 (λ c κs. search needs) (λ c. omega (arith, places-most 19 (c .before .before .before .args .number))) returns
+    returns-2)

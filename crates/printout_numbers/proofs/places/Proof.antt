@@ -14,9 +14,6 @@ Inv-loop word left₀ most₀ left most = (most ≤ 19) × (19 + places most lef
 abbrev μ-loop : tie.MeasureT-loop
 μ-loop word left₀ most₀ left most = most
 
-loop-holds : tie.Need-loop-holds Inv-loop μ-loop
-loop-holds c = (omega arith, refl)
-
 returns : tie.Need-returns Inv-loop μ-loop
 returns c = omega (arith, places-last (c .before .before .loop .most) (c .before .before .loop .left) (c .if1 .taken))
 
@@ -30,11 +27,7 @@ loop-again c = (
   ),
 )
 
-returns-2 : tie.Need-returns-2 Inv-loop μ-loop
-returns-2 c = omega (arith, places-end (c .before .loop .most) (c .before .loop .left) (c .loop-test .left))
-
 pub places-spec : {M : Type 1} → statement M
-places-spec =
-    tie.close
-    (tie.spec
-    Inv-loop μ-loop loop-holds (λ c. search needs) returns (λ c. search needs) (λ c. search needs) loop-again returns-2)
+places-spec = tie.close (tie.spec
+    Inv-loop μ-loop (λ c. (omega arith, refl)) (λ c. search needs) returns (λ c. search needs) (λ c. search needs) loop-again
+    (λ c. omega (arith, places-end (c .before .loop .most) (c .before .loop .left) (c .loop-test .left))))

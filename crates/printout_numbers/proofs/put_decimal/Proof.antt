@@ -12,10 +12,8 @@ put-digits-requires c κs =
     let e = c .places .ensures in
     (omega arith, omega arith, omega arith)
 
-returns : tie.Need-returns
-unfolding decimal
-returns c =
-    rw (← c .before .before .before .places .ensures) (c .before .before .put-digits .ensures)
-
 pub put-decimal-spec : {M : Type 1} → statement M
-put-decimal-spec = tie.close (tie.spec (λ c κs. search needs) put-digits-requires (λ c. search needs) returns)
+unfolding decimal
+put-decimal-spec = tie.close (tie.spec
+    (λ c κs. search needs) put-digits-requires (λ c. search needs)
+    (λ c. rw (← c .before .before .before .places .ensures) (c .before .before .put-digits .ensures)))

@@ -18,13 +18,6 @@ Inv-loop out₀ at base count word left₀ i₀ out left i =
 abbrev μ-loop : tie.MeasureT-loop
 μ-loop out₀ at base count word left₀ i₀ out left i = i
 
-loop-holds : tie.Need-loop-holds Inv-loop μ-loop
-loop-holds c = (omega arith, refl, refl)
-
-digit-requires : tie.Need-digit-requires Inv-loop μ-loop
-digit-requires c κs =
-    omega (arith, mod-lt (c .before .loop .left) {m = c .before .before .before .args .base} (omega arith))
-
 loop-again : tie.Need-loop-again Inv-loop μ-loop
 loop-again c =
     let g = c .before .before .before .before .args in
@@ -33,9 +26,6 @@ loop-again c =
       rw length-set (l .inv .1),
       digits-step (l .out) (g .at) (g .base) (l .i) (l .left) (c .digit .result) (c .before .loop-test .taken) (c .digit .ensures) ∙ l .inv .2,
     )
-
-same-length : tie.Need-same-length Inv-loop μ-loop
-same-length c = c .before .loop .inv .1
 
 returns : tie.Need-returns Inv-loop μ-loop
 returns c =
@@ -48,8 +38,8 @@ returns c =
     }
 
 pub put-digits-spec : {M : Type 1} → statement M
-put-digits-spec =
-    tie.close
-    (tie.spec
-    Inv-loop μ-loop loop-holds (λ c. search needs) (λ c. search needs) digit-requires (λ c. search needs) (λ c. search needs)
-    (λ c. search needs) (λ c. search needs) loop-again (λ c. search needs) same-length returns)
+put-digits-spec = tie.close (tie.spec
+    Inv-loop μ-loop (λ c. (omega arith, refl, refl)) (λ c. search needs) (λ c. search needs)
+    (λ c κs. omega (arith, mod-lt (c .before .loop .left) {m = c .before .before .before .args .base} (omega arith)))
+    (λ c. search needs) (λ c. search needs) (λ c. search needs) (λ c. search needs) loop-again (λ c. search needs)
+    (λ c. c .before .loop .inv .1) returns)

@@ -33,15 +33,8 @@ loop-again c =
     let t = c .before .before .before .before .before in
     (omega arith, rw (amounts-more _ _ (t .loop-test .taken)) at (wrote-both (t .before .loop .inv .1) (c .before .before .put-amount .ensures)))
 
-same-length : tie.Need-same-length Inv-loop μ-loop
-same-length c = c .before .loop .inv .1 .same
-
-returns : tie.Need-returns Inv-loop μ-loop
-returns c = rw (take-all _ _ (c .loop-test .left)) at (c .before .loop .inv .1)
-
 pub put-amounts-spec : {M : Type 1} → statement M
-put-amounts-spec =
-    tie.close
-    (tie.spec
-    Inv-loop μ-loop loop-holds (λ c. search needs) (λ c. search needs) put-amount-requires (λ c. search needs) (λ c. search needs)
-    loop-again same-length returns)
+put-amounts-spec = tie.close (tie.spec
+    Inv-loop μ-loop loop-holds (λ c. search needs) (λ c. search needs) put-amount-requires (λ c. search needs)
+    (λ c. search needs) loop-again (λ c. c .before .loop .inv .1 .same)
+    (λ c. rw (take-all _ _ (c .loop-test .left)) at (c .before .loop .inv .1)))

@@ -67,16 +67,9 @@ loop-again c =
       rw add-one (wrote-both (l .inv .1) (rw (part-size (l .k * g .n) (g .n)) at (c .before .before .row-line .ensures))),
     )
 
-same-length : tie.Need-same-length Inv-loop μ-loop
-same-length c = c .before .loop .inv .1 .same
-
-returns : tie.Need-returns Inv-loop μ-loop
-returns c = rw (le-antisymm (c .before .loop .inv .0) (c .loop-test .left)) at (c .before .loop .inv .1)
-
 pub put-rows-spec : {M : Type 1} → statement M
-put-rows-spec =
-    tie.close
-    (tie.spec
+put-rows-spec = tie.close (tie.spec
     Inv-loop μ-loop loop-holds mul-from add-end (λ c. search needs) (λ c. search needs) (λ c. search needs) mul-row-line-2
-    (λ c. search needs) (λ c. search needs) part-row-line-end row-line-requires (λ c. search needs) (λ c. search needs) loop-again
-    same-length returns)
+    (λ c. search needs) (λ c. search needs) part-row-line-end row-line-requires (λ c. search needs) (λ c. search needs)
+    loop-again (λ c. c .before .loop .inv .1 .same)
+    (λ c. rw (le-antisymm (c .before .loop .inv .0) (c .loop-test .left)) at (c .before .loop .inv .1)))

@@ -28,8 +28,6 @@ returns-2 c =
     rw (ne-eqb _ _ (at-if1 .if1 .left)) (c .before .before .put-text2 .ensures)
 
 pub put-side-spec : {M : Type 1} → statement M
-put-side-spec =
-    tie.close
-    (tie.spec
+put-side-spec = tie.close (tie.spec
     (λ c. search needs) put-text-requires (λ c. search needs) put-text-requires-2 (λ c. search needs) returns (λ c. search needs)
     returns-2)

@@ -47,8 +47,6 @@ returns c =
     (c .before .before .put-text2 .ensures)
 
 pub row-line-spec : {M : Type 1} → statement M
-row-line-spec =
-    tie.close
-    (tie.spec
+row-line-spec = tie.close (tie.spec
     put-bits-requires (λ c. search needs) put-text-requires put-side-requires put-amounts-requires (λ c. search needs)
     put-text-requires-2 (λ c. search needs) returns)

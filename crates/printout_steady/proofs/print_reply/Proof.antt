@@ -24,8 +24,6 @@ returns-2 c =
     (c .reply-of2 .ensures .1) (p .0) (p .1))
 
 pub print-reply-spec : {M : Type 1} → statement M
-print-reply-spec =
-    tie.close
-    (tie.spec
+print-reply-spec = tie.close (tie.spec
     (λ c. search needs) (λ c κs. search needs) (λ c κs. search needs) (λ c κs. search needs) (λ c. search needs) (λ c κs. search needs)
     (λ c κs. search needs) (λ c. search needs) returns (λ c. search needs) returns-2)

@@ -49,7 +49,5 @@ returns-3 c =
     (c .before .before .put-refused .ensures)
 
 pub print-steady-spec : {M : Type 1} → statement M
-print-steady-spec =
-    tie.close
-    (tie.spec
+print-steady-spec = tie.close (tie.spec
     (λ c κs. search needs) returns put-solved-requires put-refused-requires (λ c. search needs) returns-2 (λ c. search needs) returns-3)

@@ -7,9 +7,6 @@ use borrow.Author.Needs.{needs}
 use Rattle.printout_steady.proofs.state_line.Statement.{statement}
 use Rattle.printout_steady.proofs.state_line.Tie as tie
 
-put-bits-requires : tie.Need-put-bits-requires
-put-bits-requires c κs = omega arith
-
 put-text-requires : tie.Need-put-text-requires
 put-text-requires c κs =
     let g = c .before .before .before .before .before .before .before .args in
@@ -34,7 +31,6 @@ returns c =
     (b .put-bits2 .ensures)) (c .before .before .put-text2 .ensures)
 
 pub state-line-spec : {M : Type 1} → statement M
-state-line-spec =
-    tie.close
-    (tie.spec
-    put-bits-requires (λ c. search needs) put-text-requires put-bits-requires-2 (λ c. search needs) put-text-requires-2 (λ c. search needs) returns)
+state-line-spec = tie.close (tie.spec
+    (λ c κs. omega arith) (λ c. search needs) put-text-requires put-bits-requires-2 (λ c. search needs) put-text-requires-2
+    (λ c. search needs) returns)

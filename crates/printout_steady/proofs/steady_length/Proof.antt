@@ -6,14 +6,8 @@ use borrow.Author.Needs.{needs}
 use Rattle.printout_steady.proofs.steady_length.Statement.{statement}
 use Rattle.printout_steady.proofs.steady_length.Tie as tie
 
-add-result-2 : tie.Need-add-result-2
-add-result-2 c = omega (arith, places-most 19 (c .before .before .args .number))
-
-returns : tie.Need-returns
-returns c = rw (eq-eqb _ _ (c .if1 .taken))
-
-returns-2 : tie.Need-returns-2
-returns-2 c = rw (ne-eqb _ _ (c .before .if1 .left), c .places .ensures)
-
 pub steady-length-spec : {M : Type 1} → statement M
-steady-length-spec = tie.close (tie.spec (λ c. search needs) (λ c. search needs) (λ c κs. search needs) add-result-2 returns returns-2)
+steady-length-spec = tie.close (tie.spec
+    (λ c. search needs) (λ c. search needs) (λ c κs. search needs)
+    (λ c. omega (arith, places-most 19 (c .before .before .args .number))) (λ c. rw (eq-eqb _ _ (c .if1 .taken)))
+    (λ c. rw (ne-eqb _ _ (c .before .if1 .left), c .places .ensures)))

@@ -5,14 +5,7 @@ use Rattle.refusal.proofs.number.Reads as reads
 use Rattle.refusal.proofs.number.Lts as lts
 use Rattle.refusal.proofs.of_refusal.Reads as of-refusal-reads
 
-returns : tie.Need-returns
-returns c = search needs
-
-returns-2 : tie.Need-returns-2
-returns-2 c = rw (c .before .before .reply .given .1) (c .of-refusal .ensures)
-
 pub number-spec : {M : Type 1} → statement M
-number-spec =
-    tie.close
-    (tie.spec
-    (λ c. search needs) (λ c. search needs) (λ c κs. search needs) returns returns-2)
+number-spec = tie.close (tie.spec
+    (λ c. search needs) (λ c. search needs) (λ c κs. search needs) (λ c. search needs)
+    (λ c. rw (c .before .before .reply .given .1) (c .of-refusal .ensures)))

@@ -6,14 +6,6 @@ use Rattle.replay_numbers.specs.Text.{digitOf}
 use Rattle.replay_numbers.proofs.digit.Statement.{statement}
 use Rattle.replay_numbers.proofs.digit.Tie as tie
 
-returns : tie.Need-returns
-unfolding digitOf
-returns c = let b = c .before .args .byte in simp (lt-leb 48 b (omega arith), lt-leb 97 b (omega arith))
-
-returns-2 : tie.Need-returns-2
-unfolding digitOf
-returns-2 c = let b = c .before .before .args .byte in simp (le-leb 48 b (omega arith), le-leb b 57 (omega arith))
-
 returns-3 : tie.Need-returns-3
 unfolding digitOf
 returns-3 c =
@@ -33,4 +25,8 @@ returns-5 c =
     simp (le-leb 48 b (omega arith), lt-leb b 57 (omega arith), le-leb 97 b (omega arith), lt-leb b 102 (omega arith))
 
 pub digit-spec : {M : Type 1} → statement M
-digit-spec = tie.close (tie.spec returns returns-2 returns-3 (λ c. search needs) returns-4 returns-5)
+unfolding digitOf
+digit-spec = tie.close (tie.spec
+    (λ c. let b = c .before .args .byte in simp (lt-leb 48 b (omega arith), lt-leb 97 b (omega arith)))
+    (λ c. let b = c .before .before .args .byte in simp (le-leb 48 b (omega arith), le-leb b 57 (omega arith))) returns-3
+    (λ c. search needs) returns-4 returns-5)

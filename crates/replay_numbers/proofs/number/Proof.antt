@@ -46,12 +46,6 @@ next : (c : tie.After-digit Inv-loop μ-loop)
 next c =
     sym (step _ _ _ _ (c .before .before .loop-test .taken) (c .digit .ensures)) ∙ c .before .before .before .loop .inv .1
 
-returns-2 : tie.Need-returns-2 Inv-loop μ-loop
-returns-2 c = rw (le-ltb _ _ (c .if2 .taken)) at (next (c .before))
-
-returns-3 : tie.Need-returns-3 Inv-loop μ-loop
-returns-3 c = rw (lt-ltb _ _ (c .before .if2 .left), le-ltb _ _ (c .if3 .taken)) at (next (c .before .before))
-
 loop-again : tie.Need-loop-again Inv-loop μ-loop
 loop-again c = (omega arith, rw (lt-ltb _ _ (c .before .if2 .left), lt-ltb _ _ (c .if3 .left)) at (next (c .before .before)))
 
@@ -60,8 +54,8 @@ unfolding numberFrom
 returns-4 c = rw (drop-of-length-le _ (c .loop-test .left)) at (c .before .loop .inv .1)
 
 pub number-spec : {M : Type 1} → statement M
-number-spec =
-    tie.close
-    (tie.spec
-    Inv-loop μ-loop (λ c κs. search needs) returns loop-holds (λ c. search needs) (λ c κs. search needs) returns-2 returns-3
-    (λ c. search needs) (λ c. search needs) (λ c. search needs) (λ c. search needs) loop-again returns-4)
+number-spec = tie.close (tie.spec
+    Inv-loop μ-loop (λ c κs. search needs) returns loop-holds (λ c. search needs) (λ c κs. search needs)
+    (λ c. rw (le-ltb _ _ (c .if2 .taken)) at (next (c .before)))
+    (λ c. rw (lt-ltb _ _ (c .before .if2 .left), le-ltb _ _ (c .if3 .taken)) at (next (c .before .before))) (λ c. search needs)
+    (λ c. search needs) (λ c. search needs) (λ c. search needs) loop-again returns-4)

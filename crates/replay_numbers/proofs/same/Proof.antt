@@ -16,15 +16,11 @@ no-nan nan b t = absurd t
 no-nan (inf s) b t = refl
 no-nan (fin s m e) b t = refl
 
-returns : tie.Need-returns
-unfolding sameBits
-returns c = rw (is-nan (c .before .before .args .x) (c .before .if1 .taken)) (c .is-nan-bits .ensures)
-
 real : tie.Need-float-to-bits-result
 real c = is-real (c .before .args .x) (c .if1 .left)
 
-returns-2 : tie.Need-returns-2
-returns-2 c = no-nan (c .before .args .x) (c .before .args .bits) (real c)
-
 pub same-spec : {M : Type 1} → statement M
-same-spec = tie.close (tie.spec (λ c κs. search needs) returns real returns-2)
+unfolding sameBits
+same-spec = tie.close (tie.spec
+    (λ c κs. search needs) (λ c. rw (is-nan (c .before .before .args .x) (c .before .if1 .taken)) (c .is-nan-bits .ensures))
+    real (λ c. no-nan (c .before .args .x) (c .before .args .bits) (real c)))

@@ -27,21 +27,21 @@ simulate-cycle-requires c κs =
     let ws = wordsOf (g .window .now) in
     let ss = wordsOf (g .samples .now) in
     let es = wordsOf (g .events .now) in
-    let few : eventCount es ≤ mostCycleEvents = omega (arith, s .pre .2, words-length (g .events .now)) in
+    let few : eventCount es ≤ mostCycleEvents = omega (arith, s .pre .1 .events, words-length (g .events .now)) in
     let c' : length (g .events .now) / eventBytes ≡ eventCount es = omega (arith, words-length (g .events .now)) in
-    let m : length (g .readings .now) ≡ length ss = s .pre .4 ∙ sym (words-length (g .samples .now)) in
-    let l : length (g .readings .now) ≤ mostSamples = omega (arith, s .pre .3, s .pre .4) in
-    let a : SteadyState = record { amounts = g .amounts .now; residuals = g .residual .now; maximum = s .pre .5 .maximum } in (
-      run-goes k ws ss es (s .pre .0) few a (s .pre .5 .solved) (at-doubles .doubles .ensures) (at-events-of .events-of .ensures)
+    let m : length (g .readings .now) ≡ length ss = s .pre .2 ∙ sym (words-length (g .samples .now)) in
+    let l : length (g .readings .now) ≤ mostSamples = omega (arith, s .pre .1 .samples, s .pre .2) in
+    let a : SteadyState = record { amounts = g .amounts .now; residuals = g .residual .now; maximum = s .pre .3 .maximum } in (
+      run-goes k ws ss es (s .pre .0) few a (s .pre .3 .solved) (at-doubles .doubles .ensures) (at-events-of .events-of .ensures)
           (at-window-of .window-of .ensures) c' m l (at-normalize-periodic-cycle .normalize-periodic-cycle .result)
           (at-normalize-periodic-cycle .normalize-periodic-cycle .ensures) (at-events-in .events-in .ensures),
       few-pieces k ws ss es
-          (s .pre .0) few a (s .pre .5 .solved) (at-doubles .doubles .ensures) (at-events-of .events-of .ensures)
+          (s .pre .0) few a (s .pre .3 .solved) (at-doubles .doubles .ensures) (at-events-of .events-of .ensures)
           (at-window-of .window-of .ensures) c' m l (at-normalize-periodic-cycle .normalize-periodic-cycle .result)
           (at-normalize-periodic-cycle .normalize-periodic-cycle .ensures),
+      s .pre .4,
+      s .pre .5,
       s .pre .6,
-      s .pre .7,
-      s .pre .8,
     )
 
 returns : tie.Need-returns
@@ -57,21 +57,20 @@ returns c =
     let ws = wordsOf (g .window .now) in
     let ss = wordsOf (g .samples .now) in
     let es = wordsOf (g .events .now) in
-    let few : eventCount es ≤ mostCycleEvents = omega (arith, s .pre .2, words-length (g .events .now)) in
+    let few : eventCount es ≤ mostCycleEvents = omega (arith, s .pre .1 .events, words-length (g .events .now)) in
     let c' : length (g .events .now) / eventBytes ≡ eventCount es = omega (arith, words-length (g .events .now)) in
-    let m : length (g .readings .now) ≡ length ss = s .pre .4 ∙ sym (words-length (g .samples .now)) in
-    let l : length (g .readings .now) ≤ mostSamples = omega (arith, s .pre .3, s .pre .4) in
-    let a : SteadyState = record { amounts = g .amounts .now; residuals = g .residual .now; maximum = s .pre .5 .maximum } in
+    let m : length (g .readings .now) ≡ length ss = s .pre .2 ∙ sym (words-length (g .samples .now)) in
+    let l : length (g .readings .now) ≤ mostSamples = omega (arith, s .pre .1 .samples, s .pre .2) in
+    let a : SteadyState = record { amounts = g .amounts .now; residuals = g .residual .now; maximum = s .pre .3 .maximum } in
     let y = at-simulate-cycle .simulate-cycle .ensures in (
       y .0,
-      run-ends (g .kernel) ws ss es (s .pre .0) few a (s .pre .5 .solved) (at-doubles .doubles .ensures)
-          (at-events-of .events-of .ensures) (at-window-of .window-of .ensures) c' m l (at-normalize-periodic-cycle .normalize-periodic-cycle .result) (at-normalize-periodic-cycle .normalize-periodic-cycle .ensures) (at-events-in .events-in .ensures) (y .1),
+      run-ends (g .kernel) ws ss es (s .pre .0) few a (s .pre .3 .solved) (at-doubles .doubles .ensures)
+          (at-events-of .events-of .ensures) (at-window-of .window-of .ensures) c' m l (at-normalize-periodic-cycle .normalize-periodic-cycle .result)
+          (at-normalize-periodic-cycle .normalize-periodic-cycle .ensures) (at-events-in .events-in .ensures) (y .1),
     )
 
 pub run-next-spec : {M : Type 1} → statement M
-run-next-spec =
-    tie.close
-    (tie.spec
+run-next-spec = tie.close (tie.spec
     (λ c κs. search needs) (λ c κs. search needs) (λ c κs. search needs) (λ c κs. search needs)
     (λ c κs. search needs) simulate-cycle-requires (λ c. search needs) (λ c. search needs) (λ c. search needs)
     (λ c. search needs) returns)

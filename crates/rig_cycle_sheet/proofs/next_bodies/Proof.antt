@@ -1,58 +1,59 @@
 -- `rig_cycle_sheet::next_bodies` meets its contract.
-use mathlib.Core.Path.{sym, ap₂, _∙_}
-use mathlib.Core.List.{[]}
-use Prim.Native.Nat.{ℕ}
-use lib.Ieee.{Float}
-use Rattle.cycle.specs.Closed.{stopped}
-use Rattle.linear_pk.specs.LinearPk.{stateCount}
-use Rattle.sheet.specs.Sheet.{wordsOf}
-use Rattle.rig_steady_cycle.specs.SheetCycle.{steadyWith}
-use Rattle.rig_steady_cycle.proofs.Kept.{steady-kept}
-use Rattle.rig_cycle_sheet.proofs.Refusals.{refused-prints, next-stops, told-refused, told-solved}
+use mathlib.Core.Path.{sym, _∙_}
+use native.Mathlib.Omega.{arith}
+use lib.Seq.{length-take-le}
 use borrow.Author.Needs.{needs}
 use Rattle.rig_cycle_sheet.proofs.next_bodies.Statement.{statement}
 use Rattle.rig_cycle_sheet.proofs.next_bodies.Tie as tie
 
-print-next-requires : tie.Need-print-next-requires
-print-next-requires c κs =
-    let at-if1 = c .before .before .before .before .before .before .before in
-    let at-number = at-if1 .before in
-    let at-refusal-of = at-number .before in
-    let at-readings = at-refusal-of .before .before .before .before .before .before in
-    let at-solve-bodies = at-readings .before in
-    let s = at-solve-bodies .before .before .before .before .before .before .before .before .before .before .before .before .before .before in
-    let g = s .args in
-    let k = steady-kept (g .kernel) (wordsOf (g .window .now)) (wordsOf (g .samples .now)) (wordsOf (g .events .now)) (s .pre .0) in
-    let o = steadyWith (g .kernel) (wordsOf (g .window .now)) (wordsOf (g .samples .now)) (wordsOf (g .events .now)) in
-    let v = told-solved (stateCount (g .kernel)) o k (at-solve-bodies .solve-bodies .ensures)
-    (sym (at-number .number .ensures ∙ at-refusal-of .refusal-of .ensures .0) ∙ at-if1 .if1 .taken) (s .pre .5) (s .pre .6) in
-    (s .pre .0, s .pre .1, s .pre .2, s .pre .3, at-readings .readings .given ∙ s .pre .4, v, s .pre .7, s .pre .8, s .pre .9)
+slice-aggregate-next-cells : tie.Need-slice-aggregate-next-cells
+slice-aggregate-next-cells c =
+    let at-sample-cells = c .before .before .before .before in
+    let start = at-sample-cells .before .before .before .before .before .before in
+    sym (length-take-le _ _ (omega (arith, start .pre .1 .samples, at-sample-cells .sample-cells .ensures)))
 
-returns-2 : tie.Need-returns-2
-returns-2 c =
-    let at-print-steady = c .before .before .before in
-    let at-if1 = at-print-steady .before .before .before .before in
-    let at-number = at-if1 .before in
-    let at-refusal-of = at-number .before in
-    let at-solve-bodies = at-refusal-of .before .before .before .before .before .before .before in
-    let s = at-solve-bodies .before .before .before .before .before .before .before .before .before .before .before .before .before .before in
-    let g = s .args in
-    let k = steady-kept (g .kernel) (wordsOf (g .window .now)) (wordsOf (g .samples .now)) (wordsOf (g .events .now)) (s .pre .0) in
-    let o = steadyWith (g .kernel) (wordsOf (g .window .now)) (wordsOf (g .samples .now)) (wordsOf (g .events .now)) in
-    let m = at-number .number .ensures in
-    let p = rw m at (at-print-steady .print-steady .ensures) in
-    let e = at-refusal-of .refusal-of .ensures in
-    let h = at-if1 .if1 .left in
-    let q = told-refused (stateCount (g .kernel)) o k (at-solve-bodies .solve-bodies .ensures) (λ z. h (m ∙ e .0 ∙ z))
-    ∙ ap₂ (λ (j : ℕ) (t : Float). stopped j t) (sym (e .0)) (sym (e .1)) in
-    refused-prints (next-stops (g .kernel) (wordsOf (g .window .now)) (wordsOf (g .samples .now)) (wordsOf (g .events .now)) q)
-    (λ z. h (m ∙ z)) _ [] [] (c .reply-of .ensures .0) (c .reply-of .ensures .1) (p .0) (p .1)
+array-borrow-prefix-amounts : tie.Need-array-borrow-prefix-amounts
+array-borrow-prefix-amounts c =
+    let at-state-count = c .before .before .before .before .before in
+    at-state-count .state-count .ensures .1
+
+slice-aggregate-next-cells-2 : tie.Need-slice-aggregate-next-cells-2
+slice-aggregate-next-cells-2 c =
+    let at-state-count = c .before .before .before .before .before .before in
+    sym (length-take-le _ _ (at-state-count .state-count .ensures .1))
+
+array-borrow-prefix-residual : tie.Need-array-borrow-prefix-residual
+array-borrow-prefix-residual c =
+    let at-state-count = c .before .before .before .before .before .before in
+    at-state-count .state-count .ensures .1
+
+slice-aggregate-next-cells-3 : tie.Need-slice-aggregate-next-cells-3
+slice-aggregate-next-cells-3 c =
+    let at-state-count = c .before .before .before .before .before .before .before in
+    sym (length-take-le _ _ (at-state-count .state-count .ensures .1))
+
+next-cells-requires : tie.Need-next-cells-requires
+next-cells-requires c κs =
+    let at-value-cells = c .before .before .before .before .before .before .before in
+    let at-side-cells = at-value-cells .before in
+    let at-time-cells = at-side-cells .before in
+    let at-sample-cells = at-time-cells .before in
+    let at-state-count = at-sample-cells .before in
+    let h = at-state-count .before .before .before .before .before .pre in
+    let n = at-state-count .state-count .ensures in (
+      h .0,
+      h .1,
+      length-take-le _ _ (omega (arith, h .1 .samples, at-sample-cells .sample-cells .ensures)),
+      length-take-le _ _ (n .1) ∙ n .0,
+      length-take-le _ _ (n .1) ∙ n .0,
+      omega (arith, at-time-cells .time-cells .ensures),
+      omega (arith, at-side-cells .side-cells .ensures),
+      omega (arith, at-value-cells .value-cells .ensures),
+    )
 
 pub next-bodies-spec : {M : Type 1} → statement M
-next-bodies-spec =
-    tie.close
-    (tie.spec
-    (λ c κs. search needs) (λ c κs. search needs) (λ c κs. search needs) print-next-requires (λ c. search needs) (λ c. search needs)
-    (λ c. search needs) (λ c. search needs) (λ c. search needs) (λ c. search needs) (λ c. search needs) (λ c. search needs)
-    (λ c κs. search needs) (λ c κs. search needs) (λ c. search needs) (λ c. search needs) (λ c. search needs)
-    (λ c. search needs) returns-2)
+next-bodies-spec = tie.close (tie.spec
+    (λ c κs. search needs) (λ c κs. search needs) (λ c κs. search needs) (λ c κs. search needs) (λ c κs. search needs)
+    (λ c. search needs) slice-aggregate-next-cells array-borrow-prefix-amounts slice-aggregate-next-cells-2
+    array-borrow-prefix-residual slice-aggregate-next-cells-3 (λ c. search needs) (λ c. search needs)
+    (λ c. search needs) next-cells-requires (λ c. search needs) (λ c. search needs))

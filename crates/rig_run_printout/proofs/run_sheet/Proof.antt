@@ -1,102 +1,63 @@
 -- `rig_run_printout::run_sheet` meets its contract.
-use mathlib.Core.Path.{_≡_, sym, ap, _∙_}
 use borrow.Author.Needs.{needs}
-use Rattle.refusal.specs.Numbers.{replyNumber}
-use Rattle.refusal.specs.Result.{number}
-use Rattle.refusal.proofs.Numbers.{refusal-number}
-use Rattle.sheet.specs.Sheet.{readSheet}
 use Rattle.printout.proofs.Replies.{prints-same}
-use Rattle.rig_run_printout.proofs.Sheets.{not-read, inside, readable, printout-is}
+use Rattle.sheet_kernel.proofs.Kernels.{inside, readable}
+use Rattle.rig_run_printout.proofs.Sheets.{bytes-refused, bytes-run}
 use Rattle.rig_run_printout.proofs.run_sheet.Statement.{statement}
 use Rattle.rig_run_printout.proofs.run_sheet.Tie as tie
 
 returns : tie.Need-returns
 returns c =
     let at-reply = c .before .before .before .before .before in
-    let at-read-sheet = at-reply .before .before in
-    let p = prints-same (sym (not-read (at-read-sheet .before .before .before .args .bytes .now)
-    (sym (ap replyNumber (at-reply .reply .given .1)) ∙ at-read-sheet .read-sheet .ensures .0)
-    (refusal-number (at-reply .reply .given .0 .0)))) (c .before .before .print-refusal .ensures) in
+    let read = at-reply .before .before .read-kernel .ensures in
+    let p = prints-same (bytes-refused read (at-reply .reply .given .1)) (c .before .before .print-refusal .ensures) in
     (p .number, (p .length, p .cells))
 
 body-requires : tie.Need-body-requires
 body-requires c κs =
-    let at-read-sheet = c .before .before .before in
-    let start = at-read-sheet .before .before .before in
-    let r = at-read-sheet .read-sheet in
-    let q : number (readSheet (start .args .bytes .now)) ≡ 0 = sym (r .ensures .0) ∙ ap replyNumber (c .before .enum-told .given .1) in
-    inside (start .args .bytes .now) q (r .result .places) (r .ensures .1) .model
+    let at-enum-told = c .before .before in
+    inside (at-enum-told .before .before .read-kernel .ensures) (at-enum-told .enum-told .given .1) .window
 
 body-requires-2 : tie.Need-body-requires-2
 body-requires-2 c κs =
-    let at-read-sheet = c .before .before .before .before in
-    let start = at-read-sheet .before .before .before in
-    let r = at-read-sheet .read-sheet in
-    let q : number (readSheet (start .args .bytes .now)) ≡ 0 = sym (r .ensures .0) ∙ ap replyNumber (c .before .before .enum-told .given .1) in
-    inside (start .args .bytes .now) q (r .result .places) (r .ensures .1) .window
+    let at-enum-told = c .before .before .before in
+    inside (at-enum-told .before .before .read-kernel .ensures) (at-enum-told .enum-told .given .1) .amounts
 
 body-requires-3 : tie.Need-body-requires-3
 body-requires-3 c κs =
-    let at-enum-told = c .before .before .before in
-    let at-read-sheet = at-enum-told .before .before in
-    let start = at-read-sheet .before .before .before in
-    let r = at-read-sheet .read-sheet in
-    let q : number (readSheet (start .args .bytes .now)) ≡ 0 = sym (r .ensures .0) ∙ ap replyNumber (at-enum-told .enum-told .given .1) in
-    inside (start .args .bytes .now) q (r .result .places) (r .ensures .1) .amounts
+    let at-enum-told = c .before .before .before .before in
+    inside (at-enum-told .before .before .read-kernel .ensures) (at-enum-told .enum-told .given .1) .samples
 
 body-requires-4 : tie.Need-body-requires-4
 body-requires-4 c κs =
-    let at-enum-told = c .before .before .before .before in
-    let at-read-sheet = at-enum-told .before .before in
-    let start = at-read-sheet .before .before .before in
-    let r = at-read-sheet .read-sheet in
-    let q : number (readSheet (start .args .bytes .now)) ≡ 0 = sym (r .ensures .0) ∙ ap replyNumber (at-enum-told .enum-told .given .1) in
-    inside (start .args .bytes .now) q (r .result .places) (r .ensures .1) .samples
-
-body-requires-5 : tie.Need-body-requires-5
-body-requires-5 c κs =
     let at-enum-told = c .before .before .before .before .before in
-    let at-read-sheet = at-enum-told .before .before in
-    let start = at-read-sheet .before .before .before in
-    let r = at-read-sheet .read-sheet in
-    let q : number (readSheet (start .args .bytes .now)) ≡ 0 = sym (r .ensures .0) ∙ ap replyNumber (at-enum-told .enum-told .given .1) in
-    inside (start .args .bytes .now) q (r .result .places) (r .ensures .1) .events
+    inside (at-enum-told .before .before .read-kernel .ensures) (at-enum-told .enum-told .given .1) .events
 
-print-sheet-requires : tie.Need-print-sheet-requires
-print-sheet-requires c κs =
-    let at-body2 = c .before .before .before .before in
-    let at-body = at-body2 .before in
-    let at-enum-told = at-body .before .before in
-    let at-read-sheet = at-enum-told .before .before in
-    let start = at-read-sheet .before .before .before in
-    let r = at-read-sheet .read-sheet in
-    let q : number (readSheet (start .args .bytes .now)) ≡ 0 = sym (r .ensures .0) ∙ ap replyNumber (at-enum-told .enum-told .given .1) in
-    readable (start .args .bytes .now) q (r .result .places) (r .ensures .1) (at-body .body .result .now) (at-body2 .body2 .result .now)
-    (c .before .before .body4 .result .now) (c .before .body5 .result .now)
-    (at-body .body .ensures) (at-body2 .body2 .ensures) (c .before .before .body4 .ensures) (c .before .body5 .ensures)
-
-returns-2 : tie.Need-returns-2
-returns-2 c =
-    let at-body5 = c .before .before .before .before in
-    let at-body4 = at-body5 .before in
+run-bodies-requires : tie.Need-run-bodies-requires
+run-bodies-requires c κs =
+    let at-body4 = c .before in
     let at-body3 = at-body4 .before in
     let at-body2 = at-body3 .before in
     let at-body = at-body2 .before in
-    let at-enum-told = at-body .before .before in
-    let at-read-sheet = at-enum-told .before .before in
-    let start = at-read-sheet .before .before .before in
-    let r = at-read-sheet .read-sheet in
-    let q : number (readSheet (start .args .bytes .now)) ≡ 0 = sym (r .ensures .0) ∙ ap replyNumber (at-enum-told .enum-told .given .1) in
-    let e = printout-is (start .args .bytes .now) q (r .result .places) (r .ensures .1) (at-body .body .result .now)
-    (at-body2 .body2 .result .now) (at-body4 .body4 .result .now) (at-body5 .body5 .result .now) (at-body .body .ensures)
-    (at-body2 .body2 .ensures) (at-body4 .body4 .ensures) (at-body5 .body5 .ensures) (at-body3 .body3 .result .now)
-    (at-body3 .body3 .ensures) in
-    let p = prints-same e (c .before .before .print-sheet .ensures) in
+    let at-enum-told = at-body .before .before .before in
+    let read = at-enum-told .before .before .read-kernel in
+    let told = at-enum-told .enum-told .given .1 in
+    readable (read .ensures) told (at-body .body .ensures) (at-body3 .body3 .ensures) (at-body4 .body4 .ensures)
+
+returns-2 : tie.Need-returns-2
+returns-2 c =
+    let at-body4 = c .before .before .before .before in
+    let at-body3 = at-body4 .before in
+    let at-body2 = at-body3 .before in
+    let at-body = at-body2 .before in
+    let at-enum-told = at-body .before .before .before in
+    let read = at-enum-told .before .before .read-kernel in
+    let e = bytes-run (read .ensures) (at-enum-told .enum-told .given .1)
+    (at-body .body .ensures) (at-body2 .body2 .ensures) (at-body3 .body3 .ensures) (at-body4 .body4 .ensures) in
+    let p = prints-same e (c .before .before .run-bodies .ensures) in
     (p .number, (p .length, p .cells))
 
 pub run-sheet-spec : {M : Type 1} → statement M
-run-sheet-spec =
-    tie.close
-    (tie.spec
-    (λ c κs. search needs) (λ c. search needs) (λ c κs. search needs) (λ c. search needs) body-requires body-requires-2 body-requires-3
-    body-requires-4 body-requires-5 print-sheet-requires (λ c. search needs) returns (λ c. search needs) returns-2)
+run-sheet-spec = tie.close (tie.spec
+    (λ c κs. search needs) (λ c. search needs) (λ c κs. search needs) (λ c. search needs) body-requires body-requires-2 body-requires-3 body-requires-4
+    run-bodies-requires (λ c. search needs) returns (λ c. search needs) returns-2)

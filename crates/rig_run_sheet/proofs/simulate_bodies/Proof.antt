@@ -39,8 +39,6 @@ returns c =
     (h .4) (h .5) (h .6) (x .0) (x .1 .0) (x .1 .1 .0) (x .1 .1 .1)
 
 pub simulate-bodies-spec : {M : Type 1} → statement M
-simulate-bodies-spec =
-    tie.close
-    (tie.spec
+simulate-bodies-spec = tie.close (tie.spec
     doubles-requires (λ c κs. search needs) (λ c κs. search needs) (λ c κs. search needs) (λ c κs. search needs) (λ c. search needs)
     (λ c. search needs) (λ c. search needs) (λ c. search needs) (λ c. search needs) returns)

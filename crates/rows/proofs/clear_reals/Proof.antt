@@ -14,20 +14,11 @@ Inv-loop list₀ k i₀ list i = Clearing plusZero k list₀ list i
 abbrev μ-loop : tie.MeasureT-loop
 μ-loop list₀ k i₀ list i = k - i
 
-loop-holds : tie.Need-loop-holds Inv-loop μ-loop
-loop-holds c = clearing-start plusZero (c .args .k) (c .args .list .now)
-
-slice-write-list : tie.Need-slice-write-list Inv-loop μ-loop
-slice-write-list c = omega (arith, c .before .loop .inv .same, c .before .before .pre)
-
 loop-again : tie.Need-loop-again Inv-loop μ-loop
 unfolding ofBits
 loop-again c =
     clearing-more plusZero (c .before .before .args .k) (c .before .before .args .list .now) (c .before .loop .i) (c .before .before .pre)
     (c .before .loop .inv) (c .loop-test .taken)
-
-same-length : tie.Need-same-length Inv-loop μ-loop
-same-length c = c .before .loop .inv .same
 
 returns : tie.Need-returns Inv-loop μ-loop
 returns c =
@@ -35,8 +26,7 @@ returns c =
     (c .before .loop .inv)
 
 pub clear-reals-spec : {M : Type 1} → statement M
-clear-reals-spec =
-    tie.close
-    (tie.spec
-    Inv-loop μ-loop loop-holds (λ c. search needs) slice-write-list (λ c. search needs) (λ c. search needs) loop-again same-length
-    returns)
+clear-reals-spec = tie.close (tie.spec
+    Inv-loop μ-loop (λ c. clearing-start plusZero (c .args .k) (c .args .list .now)) (λ c. search needs)
+    (λ c. omega (arith, c .before .loop .inv .same, c .before .before .pre)) (λ c. search needs) (λ c. search needs) loop-again
+    (λ c. c .before .loop .inv .same) returns)

@@ -12,25 +12,16 @@ Inv-loop list₀ k i₀ list i = Clearing 0 k list₀ list i
 abbrev μ-loop : tie.MeasureT-loop
 μ-loop list₀ k i₀ list i = k - i
 
-loop-holds : tie.Need-loop-holds Inv-loop μ-loop
-loop-holds c = clearing-start 0 (c .args .k) (c .args .list .now)
-
-slice-write-list : tie.Need-slice-write-list Inv-loop μ-loop
-slice-write-list c = omega (arith, c .before .loop .inv .same, c .before .before .pre)
-
 loop-again : tie.Need-loop-again Inv-loop μ-loop
 loop-again c =
     clearing-more 0 (c .before .before .args .k) (c .before .before .args .list .now) (c .before .loop .i) (c .before .before .pre)
     (c .before .loop .inv) (c .loop-test .taken)
 
-same-length : tie.Need-same-length Inv-loop μ-loop
-same-length c = c .before .loop .inv .same
-
 returns : tie.Need-returns Inv-loop μ-loop
 returns c = clearing-done 0 (c .before .before .args .k) (c .before .before .args .list .now) (c .before .loop .i) (c .loop-test .left) (c .before .loop .inv)
 
 pub clear-sides-spec : {M : Type 1} → statement M
-clear-sides-spec =
-    tie.close
-    (tie.spec
-    Inv-loop μ-loop loop-holds slice-write-list (λ c. search needs) (λ c. search needs) loop-again same-length returns)
+clear-sides-spec = tie.close (tie.spec
+    Inv-loop μ-loop (λ c. clearing-start 0 (c .args .k) (c .args .list .now))
+    (λ c. omega (arith, c .before .loop .inv .same, c .before .before .pre)) (λ c. search needs) (λ c. search needs) loop-again
+    (λ c. c .before .loop .inv .same) returns)

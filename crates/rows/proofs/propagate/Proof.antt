@@ -8,15 +8,6 @@ use Rattle.rows.proofs.Kernel.{advance-moves}
 use Rattle.rows.proofs.propagate.Statement.{statement}
 use Rattle.rows.proofs.propagate.Tie as tie
 
-slice-aggregate-from : tie.Need-slice-aggregate-from
-slice-aggregate-from c = sym (length-take-le _ (c .before .args .t3) (omega arith))
-
-slice-aggregate-input : tie.Need-slice-aggregate-input
-slice-aggregate-input c = sym (length-take-le _ (c .before .before .args .t4) (omega arith))
-
-slice-aggregate-advance : tie.Need-slice-aggregate-advance
-slice-aggregate-advance c = sym (length-take-le _ _ (omega arith))
-
 returns : tie.Need-returns
 returns c =
     let g = c .before .before .before .before .before .args in
@@ -25,8 +16,7 @@ returns c =
     (length-take-le _ _ (omega arith)) (c .before .advance .ensures .1)
 
 pub propagate-spec : {M : Type 1} → statement M
-propagate-spec =
-    tie.close
-    (tie.spec
-    (λ c. search needs) slice-aggregate-from (λ c. search needs) slice-aggregate-input (λ c. search needs) slice-aggregate-advance
-    (λ c κs. search needs) returns)
+propagate-spec = tie.close (tie.spec
+    (λ c. search needs) (λ c. sym (length-take-le _ (c .before .args .t3) (omega arith))) (λ c. search needs)
+    (λ c. sym (length-take-le _ (c .before .before .args .t4) (omega arith))) (λ c. search needs)
+    (λ c. sym (length-take-le _ _ (omega arith))) (λ c κs. search needs) returns)

@@ -31,9 +31,7 @@ returns c =
     )
 
 pub put-row-spec : {M : Type 1} → statement M
-put-row-spec =
-    tie.close
-    (tie.spec
+put-row-spec = tie.close (tie.spec
     (λ c. search needs) (λ c. search needs) (λ c. search needs) (λ c. search needs) (λ c. search needs) slice-aggregate-state
     (λ c. search needs) (λ c. search needs) (λ c. search needs) (λ c. search needs) row-writer-requires (λ c. search needs)
     (λ c. search needs) (λ c. search needs) returns)

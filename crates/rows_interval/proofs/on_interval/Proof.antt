@@ -27,9 +27,9 @@ returns : tie.Need-returns
 unfolding ofBits
 returns c =
     let g = c .before .before .before .before .before .before .before .before .args in
-    interval-refused (kernelAdvance (g .kernel) (g .n)) (g .n) (g .start) (g .t) (take (g .n) (g .t4)) (g .u) (g .samples .now)
-    (cells (g .times .now) (g .sides .now) (g .values .now)) (sym (c .before .before .all-finite .ensures)
-    ∙ not-true (c .before .before .all-finite .result) (c .before .if1 .taken))
+    rw (c .stopped-by .ensures) (interval-refused (kernelAdvance (g .kernel) (g .n)) (g .n) (g .start) (g .t) (take (g .n) (g .t4)) (g .u)
+    (g .samples .now) (cells (g .times .now) (g .sides .now) (g .values .now)) (sym (c .before .before .all-finite .ensures)
+    ∙ not-true (c .before .before .all-finite .result) (c .before .if1 .taken)))
 
 read-all-requires : tie.Need-read-all-requires
 read-all-requires c κs =
@@ -40,21 +40,6 @@ read-all-requires c κs =
     interval-fits (kernelAdvance (g .kernel) (g .n)) (g .n) (g .start) (g .t) (take (g .n) (g .t4)) (g .u) (g .samples .now)
     (cells (g .times .now) (g .sides .now) (g .values .now)) (sym (at-all-finite .all-finite .ensures)
     ∙ not-false (at-all-finite .all-finite .result) (at-if1 .if1 .left)) (start .pre)
-
-same-length : tie.Need-same-length
-same-length c =
-    let at-read-all = c .before .before .before .before .before .before .before .before in
-    ran-same (at-read-all .read-all .ensures) .times
-
-same-length-2 : tie.Need-same-length-2
-same-length-2 c =
-    let at-read-all = c .before .before .before .before .before .before .before .before in
-    ran-same (at-read-all .read-all .ensures) .sides
-
-same-length-3 : tie.Need-same-length-3
-same-length-3 c =
-    let at-read-all = c .before .before .before .before .before .before .before .before in
-    ran-same (at-read-all .read-all .ensures) .values
 
 returns-2 : tie.Need-returns-2
 returns-2 c =
@@ -80,21 +65,6 @@ arrive-requires c κs =
           ∙ not-false (at-all-finite .all-finite .result) (at-if1 .if1 .left)) (at-read-all .read-all .ensures) (start .pre),
     )
 
-same-length-4 : tie.Need-same-length-4
-same-length-4 c =
-    let at-read-all = c .before .before .before .before .before .before .before .before .before in
-    ran-same (at-read-all .read-all .ensures) .times
-
-same-length-5 : tie.Need-same-length-5
-same-length-5 c =
-    let at-read-all = c .before .before .before .before .before .before .before .before .before in
-    ran-same (at-read-all .read-all .ensures) .sides
-
-same-length-6 : tie.Need-same-length-6
-same-length-6 c =
-    let at-read-all = c .before .before .before .before .before .before .before .before .before in
-    ran-same (at-read-all .read-all .ensures) .values
-
 returns-3 : tie.Need-returns-3
 returns-3 c =
     let at-read-all = c .before .before .before .before .before .before .before .before .before in
@@ -107,8 +77,8 @@ returns-3 c =
     (c .before .before .stopped .ensures) ∙ c .before .if2 .left) (c .arrive .ensures _)
 
 pub on-interval-spec : {M : Type 1} → statement M
-on-interval-spec =
-    tie.close
-    (tie.spec
-    array-share-prefix-rates slice-aggregate-summed (λ c κs. search needs) returns read-all-requires (λ c κs. search needs) same-length same-length-2
-    same-length-3 returns-2 arrive-requires same-length-4 same-length-5 same-length-6 returns-3)
+on-interval-spec = tie.close (tie.spec
+    array-share-prefix-rates slice-aggregate-summed (λ c κs. search needs) (λ c κs. search needs) returns read-all-requires
+    (λ c κs. search needs) (λ c. ran-same (returns-2 c) .times) (λ c. ran-same (returns-2 c) .sides)
+    (λ c. ran-same (returns-2 c) .values) returns-2 arrive-requires (λ c. ran-same (returns-3 c) .times)
+    (λ c. ran-same (returns-3 c) .sides) (λ c. ran-same (returns-3 c) .values) returns-3)

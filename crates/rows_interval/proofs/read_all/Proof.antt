@@ -4,7 +4,6 @@ use borrow.Author.Needs.{needs}
 use Prim.Native.Nat.{_-_}
 use mathlib.Core.Logic.{⊎-elim}
 use lib.ListN.{length, take}
-use lib.Ieee.{ofBits}
 use Rattle.rows.specs.Written.{cells}
 use Rattle.rows.specs.Standing.{kernelAdvance}
 use Rattle.rows.proofs.Parts.{fits-fresh, ran-fresh, ran-same}
@@ -20,57 +19,32 @@ abbrev μ-loop : tie.MeasureT-loop
 μ-loop kernel n t rates u samples times₀ sides₀ values₀ p₀ k₀ times sides values p k = length samples - k
 
 loop-holds : tie.Need-loop-holds Inv-loop μ-loop
-unfolding ofBits
 loop-holds c =
     let start = c .before .before .before .before .before in
-    through-none (start .args .start)
+    through-none (start .args .start) (c .resumed .ensures)
 
 read-requires : tie.Need-read-requires Inv-loop μ-loop
-unfolding ofBits
 read-requires c κs =
     let at-if2 = c .before .before .before in
     let at-if1 = at-if2 .before in
     let at-loop-test = at-if1 .before .before in
     let at-loop = at-loop-test .before in
-    let start = at-loop .before .before .before .before .before .before in
-    through-fits (at-loop .loop .inv) (at-loop-test .loop-test .taken) (at-if1 .if1 .taken) (at-if2 .if2 .taken) (fits-fresh (start .pre))
-
-same-length : tie.Need-same-length Inv-loop μ-loop
-same-length c =
-    let at-read = c .before .before .before .before .before .before .before .before in
-    let at-if2 = at-read .before .before .before .before in
-    let at-if1 = at-if2 .before in
-    let at-loop-test = at-if1 .before .before in
-    ran-same (through-stops (at-loop-test .before .loop .inv) (at-loop-test .loop-test .taken) (at-if1 .if1 .taken) (at-if2 .if2 .taken)
-    (at-read .read .ensures) (sym (c .before .stopped .ensures) ∙ c .if3 .taken)) .times
-
-same-length-2 : tie.Need-same-length-2 Inv-loop μ-loop
-same-length-2 c =
-    let at-read = c .before .before .before .before .before .before .before .before in
-    let at-if2 = at-read .before .before .before .before in
-    let at-if1 = at-if2 .before in
-    let at-loop-test = at-if1 .before .before in
-    ran-same (through-stops (at-loop-test .before .loop .inv) (at-loop-test .loop-test .taken) (at-if1 .if1 .taken) (at-if2 .if2 .taken)
-    (at-read .read .ensures) (sym (c .before .stopped .ensures) ∙ c .if3 .taken)) .sides
-
-same-length-3 : tie.Need-same-length-3 Inv-loop μ-loop
-same-length-3 c =
-    let at-read = c .before .before .before .before .before .before .before .before in
-    let at-if2 = at-read .before .before .before .before in
-    let at-if1 = at-if2 .before in
-    let at-loop-test = at-if1 .before .before in
-    ran-same (through-stops (at-loop-test .before .loop .inv) (at-loop-test .loop-test .taken) (at-if1 .if1 .taken) (at-if2 .if2 .taken)
-    (at-read .read .ensures) (sym (c .before .stopped .ensures) ∙ c .if3 .taken)) .values
+    let at-resumed = at-loop .before in
+    let start = at-resumed .before .before .before .before .before in
+    through-fits (at-loop .loop .inv) (at-loop-test .loop-test .taken) (at-if1 .if1 .taken) (at-if2 .if2 .taken)
+    (fits-fresh (start .args .start) (at-resumed .resumed .ensures) (start .pre))
 
 returns : tie.Need-returns Inv-loop μ-loop
-unfolding ofBits
 returns c =
     let at-read = c .before .before .before .before .before .before .before .before in
     let at-if2 = at-read .before .before .before .before in
     let at-if1 = at-if2 .before in
     let at-loop-test = at-if1 .before .before in
-    ran-fresh (through-stops (at-loop-test .before .loop .inv) (at-loop-test .loop-test .taken) (at-if1 .if1 .taken) (at-if2 .if2 .taken)
-    (at-read .read .ensures) (sym (c .before .stopped .ensures) ∙ c .if3 .taken))
+    let at-loop = at-loop-test .before in
+    let at-resumed = at-loop .before in
+    let start = at-resumed .before .before .before .before .before in
+    ran-fresh (start .args .start) (at-resumed .resumed .ensures) (through-stops (at-loop .loop .inv) (at-loop-test .loop-test .taken)
+    (at-if1 .if1 .taken) (at-if2 .if2 .taken) (at-read .read .ensures) (sym (c .before .stopped .ensures) ∙ c .if3 .taken))
 
 loop-again : tie.Need-loop-again Inv-loop μ-loop
 loop-again c =
@@ -81,22 +55,16 @@ loop-again c =
     (λ w. rw (w .1, w .2, w .3, w .4) (through-early h k (w .0 .left))))
     (c .if1 .came)
 
-same-length-4 : tie.Need-same-length-4 Inv-loop μ-loop
-same-length-4 c = ran-same (c .before .loop .inv .ran) .times
-
-same-length-5 : tie.Need-same-length-5 Inv-loop μ-loop
-same-length-5 c = ran-same (c .before .loop .inv .ran) .sides
-
-same-length-6 : tie.Need-same-length-6 Inv-loop μ-loop
-same-length-6 c = ran-same (c .before .loop .inv .ran) .values
-
 returns-2 : tie.Need-returns-2 Inv-loop μ-loop
-unfolding ofBits
-returns-2 c = ran-fresh (through-all (c .before .loop .inv) (c .loop-test .left))
+returns-2 c =
+    let at-resumed = c .before .before in
+    let start = at-resumed .before .before .before .before .before in
+    ran-fresh (start .args .start) (at-resumed .resumed .ensures) (through-all (c .before .loop .inv) (c .loop-test .left))
 
 pub read-all-spec : {M : Type 1} → statement M
-read-all-spec =
-    tie.close
-    (tie.spec
-    Inv-loop μ-loop loop-holds (λ c. search needs) (λ c. search needs) read-requires (λ c κs. search needs) same-length same-length-2 same-length-3
-    returns (λ c. search needs) (λ c. search needs) loop-again same-length-4 same-length-5 same-length-6 returns-2)
+read-all-spec = tie.close (tie.spec
+    Inv-loop μ-loop (λ c κs. search needs) loop-holds (λ c. search needs) (λ c. search needs) read-requires
+    (λ c κs. search needs) (λ c. ran-same (returns c) .times) (λ c. ran-same (returns c) .sides)
+    (λ c. ran-same (returns c) .values) returns (λ c. search needs) (λ c. search needs) loop-again
+    (λ c. ran-same (c .before .loop .inv .ran) .times) (λ c. ran-same (c .before .loop .inv .ran) .sides)
+    (λ c. ran-same (c .before .loop .inv .ran) .values) returns-2)

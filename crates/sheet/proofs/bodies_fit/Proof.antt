@@ -43,12 +43,12 @@ returns c =
     let g = s .args .places in
     let ws = wordsOf (s .args .bytes .now) in
     let l : g .amounts ≤ length ws = omega (arith, p .amounts .1, p .samples .1, p .events .1, p .whole) in
-    ap₂ _&&_ (at-model-fits .model-fits .ensures ∙ ap modelFits (at-body .body .ensures ∙ body-at ws (g .model) (g .window) 0 (p .model .0) (p .model .1)))
+    ap₂ _&&_
+    (at-model-fits .model-fits .ensures ∙ ap modelFits (at-body .body .ensures .words ∙ body-at ws (g .model) (g .window) 0 (p .model .0) (p .model .1)))
     (ap₂ _&&_ (ap (λ (n : ℕ). eqb n 9) (sym (body-length ws (g .window) (g .amounts) 1 (p .window .0) (p .window .1) l)))
-    (c .before .events-fit .ensures ∙ ap eventsFit (c .before .before .body2 .ensures ∙ body-at ws (g .events) (g .end) 4 (p .events .0) (p .events .1))))
+    (c .before .events-fit .ensures
+    ∙ ap eventsFit (c .before .before .body2 .ensures .words ∙ body-at ws (g .events) (g .end) 4 (p .events .0) (p .events .1))))
 
 pub bodies-fit-spec : {M : Type 1} → statement M
-bodies-fit-spec =
-    tie.close
-    (tie.spec
+bodies-fit-spec = tie.close (tie.spec
     body-requires (λ c κs. search needs) body-requires-2 (λ c κs. search needs) sub-result returns)

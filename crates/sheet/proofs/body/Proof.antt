@@ -14,11 +14,12 @@ returns c =
     let s = c .before in
     let g = s .args in
     let e : 8 * g .end - 8 * g .first ≡ 8 * (g .end - g .first) = omega arith in
-    ap (λ (n : ℕ). wordsOf (take n (drop (8 * g .first) (g .bytes .now)))) e
-    ∙ part-words (g .bytes .now) (g .first) (g .end - g .first) (omega (arith, s .pre .0, s .pre .1))
+    record {
+      words =
+          ap (λ (n : ℕ). wordsOf (take n (drop (8 * g .first) (g .bytes .now)))) e
+          ∙ part-words (g .bytes .now) (g .first) (g .end - g .first) (omega (arith, s .pre .0, s .pre .1));
+    }
 
 pub body-spec : {M : Type 1} → statement M
-body-spec =
-    tie.close
-    (tie.spec
+body-spec = tie.close (tie.spec
     (λ c. search needs) (λ c. search needs) (λ c. search needs) (λ c. search needs) (λ c. search needs) returns)

@@ -12,8 +12,6 @@ returns c =
     c .words-listed .ensures ∙ rw (add-zero, c .before .before .before .word .ensures, c .before .before .word2 .ensures, c .before .word3 .ensures)
 
 pub event-fits-spec : {M : Type 1} → statement M
-event-fits-spec =
-    tie.close
-    (tie.spec
+event-fits-spec = tie.close (tie.spec
     (λ c. search needs) (λ c κs. search needs) (λ c. search needs) (λ c κs. search needs) (λ c. search needs) (λ c κs. search needs)
     (λ c κs. search needs) returns)

@@ -18,23 +18,12 @@ Inv-loop part total count ok₀ i₀ ok i = (i ≤ count) × (ok ≡ allTo (even
 abbrev μ-loop : tie.MeasureT-loop
 μ-loop part total count ok₀ i₀ ok i = count - i
 
-loop-holds : tie.Need-loop-holds Inv-loop μ-loop
-unfolding allTo
-loop-holds c = (omega arith, refl)
-
-event-fits-requires : tie.Need-event-fits-requires Inv-loop μ-loop
-event-fits-requires c κs = omega arith
-
-loop-again : tie.Need-loop-again Inv-loop μ-loop
-unfolding allTo
-loop-again c = (omega arith, rw (add-one, c .event-fits .ensures, c .before .before .loop .inv .1))
-
 returns : tie.Need-returns Inv-loop μ-loop
 unfolding eventsFit
 returns c = rw (words-length, rw (le-antisymm (c .before .loop .inv .0) (c .loop-test .left)) at (c .before .loop .inv .1))
 
 pub events-fit-spec : {M : Type 1} → statement M
-events-fit-spec =
-    tie.close
-    (tie.spec
-    Inv-loop μ-loop loop-holds event-fits-requires (λ c. search needs) (λ c. search needs) loop-again returns)
+unfolding allTo
+events-fit-spec = tie.close (tie.spec
+    Inv-loop μ-loop (λ c. (omega arith, refl)) (λ c κs. omega arith) (λ c. search needs) (λ c. search needs)
+    (λ c. (omega arith, rw (add-one, c .event-fits .ensures, c .before .before .loop .inv .1))) returns)

@@ -26,7 +26,5 @@ returns-2 c =
     )
 
 pub model-fits-spec : {M : Type 1} → statement M
-model-fits-spec =
-    tie.close
-    (tie.spec
+model-fits-spec = tie.close (tie.spec
     returns (λ c κs. search needs) (λ c κs. search needs) (λ c. search needs) (λ c. search needs) (λ c. search needs) returns-2)

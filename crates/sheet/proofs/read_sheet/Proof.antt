@@ -74,8 +74,6 @@ returns-4 c =
     ∙ c .before .if2 .left)) (c .refused3 .ensures)
 
 pub read-sheet-spec : {M : Type 1} → statement M
-read-sheet-spec =
-    tie.close
-    (tie.spec
+read-sheet-spec = tie.close (tie.spec
     (λ c κs. search needs) (λ c κs. search needs) returns places-of-requires bodies-fit-requires sub-events sub-samples
     (λ c κs. search needs) (λ c κs. search needs) returns-2 returns-3 returns-4)

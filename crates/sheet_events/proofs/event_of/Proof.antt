@@ -23,9 +23,7 @@ returns c =
     )
 
 pub event-of-spec : {M : Type 1} → statement M
-event-of-spec =
-    tie.close
-    (tie.spec
+event-of-spec = tie.close (tie.spec
     (λ c. search needs) (λ c κs. search needs) (λ c. search needs) (λ c κs. search needs) (λ c. search needs) (λ c κs. search needs)
     (λ c. search needs) (λ c κs. search needs) (λ c. search needs) (λ c κs. search needs) (λ c. search needs) (λ c κs. search needs)
     (λ c κs. search needs) returns)

@@ -15,7 +15,5 @@ unfolding eventOrNone
 returns-2 c = rw (words-length, le-ltb _ _ (c .before .if1 .left)) (c .no-event .ensures)
 
 pub event-or-none-spec : {M : Type 1} → statement M
-event-or-none-spec =
-    tie.close
-    (tie.spec
+event-or-none-spec = tie.close (tie.spec
     (λ c κs. search needs) (λ c κs. search needs) returns returns-2)

@@ -20,13 +20,6 @@ Inv-loop events count sum₀ i₀ sum i = (i ≤ count) × (sum ≡ ordered (tab
 abbrev μ-loop : tie.MeasureT-loop
 μ-loop events count sum₀ i₀ sum i = count - i
 
-loop-holds : tie.Need-loop-holds Inv-loop μ-loop
-unfolding orderedFrom tabulate tabulateFrom ofBits
-loop-holds c = (omega arith, refl)
-
-event-of-requires : tie.Need-event-of-requires Inv-loop μ-loop
-event-of-requires c κs = omega arith
-
 loop-again : tie.Need-loop-again Inv-loop μ-loop
 loop-again c =
     (omega arith, rw (add-one, ordered-more, c .plus-dose .ensures, c .before .event-of .ensures, c .before .before .before .loop .inv .1))
@@ -40,7 +33,7 @@ returns c =
     c .before .loop .inv .1 ∙ ap (λ (j : ℕ). ordered (tabulate j (eventOf ws))) e
 
 pub ordered-spec : {M : Type 1} → statement M
-ordered-spec =
-    tie.close
-    (tie.spec
-    Inv-loop μ-loop loop-holds event-of-requires (λ c κs. search needs) (λ c. search needs) (λ c. search needs) loop-again returns)
+unfolding ofBits orderedFrom tabulate tabulateFrom
+ordered-spec = tie.close (tie.spec
+    Inv-loop μ-loop (λ c. (omega arith, refl)) (λ c κs. omega arith) (λ c κs. search needs) (λ c. search needs)
+    (λ c. search needs) loop-again returns)

@@ -21,8 +21,6 @@ returns c =
     ) at (c .new .ensures)
 
 pub kernel-from-spec : {M : Type 1} → statement M
-kernel-from-spec =
-    tie.close
-    (tie.spec
+kernel-from-spec = tie.close (tie.spec
     (λ c κs. search needs) (λ c. search needs) (λ c κs. search needs) (λ c κs. search needs) (λ c κs. search needs) (λ c κs. search needs)
     (λ c. search needs) (λ c. search needs) returns)

@@ -61,8 +61,6 @@ kernel-from-requires c κs =
     )
 
 pub kernel-of-spec : {M : Type 1} → statement M
-kernel-of-spec =
-    tie.close
-    (tie.spec
+kernel-of-spec = tie.close (tie.spec
     word-requires array-borrow-prefix-volumes slice-aggregate-kernel-from sub-exchange array-borrow-prefix-exchange
     slice-aggregate-kernel-from-2 kernel-from-requires (λ c. search needs))

@@ -4,9 +4,7 @@ use borrow.Author.Needs.{needs}
 use Rattle.sheet_kernel.proofs.tolerance_of.Statement.{statement}
 use Rattle.sheet_kernel.proofs.tolerance_of.Tie as tie
 
-returns : tie.Need-returns
-unfolding toleranceOf
-returns c = cc
-
 pub tolerance-of-spec : {M : Type 1} → statement M
-tolerance-of-spec = tie.close (tie.spec (λ c κs. search needs) (λ c κs. search needs) returns)
+unfolding toleranceOf
+tolerance-of-spec = tie.close (tie.spec
+    (λ c κs. search needs) (λ c κs. search needs) (λ c. cc))

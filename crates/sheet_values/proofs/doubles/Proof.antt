@@ -19,10 +19,6 @@ Inv-loop part i out₀ k₀ out k = (k ≤ length out₀) × (length out ≡ len
 abbrev μ-loop : tie.MeasureT-loop
 μ-loop part i out₀ k₀ out k = length out₀ - k
 
-loop-holds : tie.Need-loop-holds Inv-loop μ-loop
-unfolding updated updatedFrom
-loop-holds c = (omega arith, refl, refl)
-
 loop-again : tie.Need-loop-again Inv-loop μ-loop
 loop-again c =
     let g = c .before .before .before .before .before .args in
@@ -38,8 +34,7 @@ returns c =
     (l .inv .2) ∙ whole (λ j. doubleOf (wordsOf (g .part .now)) (g .i + j)) (g .out .now)
 
 pub doubles-spec : {M : Type 1} → statement M
-doubles-spec =
-    tie.close
-    (tie.spec
-    Inv-loop μ-loop loop-holds (λ c. search needs) (λ c κs. search needs) (λ c. search needs) (λ c. search needs) (λ c. search needs)
-    (λ c. search needs) loop-again (λ c. search needs) returns)
+unfolding updated updatedFrom
+doubles-spec = tie.close (tie.spec
+    Inv-loop μ-loop (λ c. (omega arith, refl, refl)) (λ c. search needs) (λ c κs. search needs) (λ c. search needs)
+    (λ c. search needs) (λ c. search needs) (λ c. search needs) loop-again (λ c. search needs) returns)

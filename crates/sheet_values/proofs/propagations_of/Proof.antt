@@ -3,11 +3,6 @@ use borrow.Author.Tests.{eq-eqb, ne-eqb}
 use Rattle.sheet_values.proofs.propagations_of.Statement.{statement}
 use Rattle.sheet_values.proofs.propagations_of.Tie as tie
 
-returns : tie.Need-returns
-returns c = rw (eq-eqb _ _ (c .if1 .taken))
-
-returns-2 : tie.Need-returns-2
-returns-2 c = rw (ne-eqb _ _ (c .if1 .left))
-
 pub propagations-of-spec : {M : Type 1} → statement M
-propagations-of-spec = tie.close (tie.spec returns returns-2)
+propagations-of-spec = tie.close (tie.spec
+    (λ c. rw (eq-eqb _ _ (c .if1 .taken))) (λ c. rw (ne-eqb _ _ (c .if1 .left))))

@@ -23,8 +23,6 @@ returns c =
     )
 
 pub window-of-spec : {M : Type 1} → statement M
-window-of-spec =
-    tie.close
-    (tie.spec
+window-of-spec = tie.close (tie.spec
     (λ c κs. search needs) (λ c κs. search needs) (λ c κs. search needs) (λ c κs. search needs) (λ c κs. search needs)
     (λ c κs. search needs) (λ c κs. search needs) (λ c κs. search needs) returns)

@@ -21,9 +21,7 @@ returns c =
     )
 
 pub half-spec : {M : Type 1} → statement M
-half-spec =
-    tie.close
-    (tie.spec
+half-spec = tie.close (tie.spec
     (λ c κs. search needs) (λ c. search needs) (λ c κs. search needs) (λ c. search needs) (λ c κs. search needs) (λ c. search needs)
     (λ c κs. search needs) (λ c. search needs) (λ c. search needs) (λ c. search needs) (λ c. search needs) (λ c. search needs)
     (λ c. search needs) returns)

@@ -32,7 +32,5 @@ returns-2 c =
     )
 
 pub head-fits-spec : {M : Type 1} → statement M
-head-fits-spec =
-    tie.close
-    (tie.spec
+head-fits-spec = tie.close (tie.spec
     returns (λ c κs. search needs) (λ c κs. search needs) returns-2)

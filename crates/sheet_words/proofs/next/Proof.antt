@@ -52,8 +52,6 @@ returns-2 c =
     )
 
 pub next-spec : {M : Type 1} → statement M
-next-spec =
-    tie.close
-    (tie.spec
+next-spec = tie.close (tie.spec
     (λ c. search needs) (λ c. search needs) (λ c κs. search needs) (λ c. search needs) (λ c. search needs) (λ c κs. search needs)
     (λ c. search needs) (λ c. search needs) add-result (λ c. search needs) returns returns-2)

@@ -12,7 +12,5 @@ returns c =
     rw (word-at (g .bytes .now) (g .i) (start .pre), eight (g .bytes .now) (8 * g .i) (start .pre), c .before .half .ensures .1, c .half2 .ensures .1)
 
 pub word-spec : {M : Type 1} → statement M
-word-spec =
-    tie.close
-    (tie.spec
+word-spec = tie.close (tie.spec
     (λ c. search needs) (λ c κs. search needs) (λ c. search needs) (λ c κs. search needs) (λ c. search needs) (λ c. search needs) returns)

@@ -198,9 +198,7 @@ returns-2 c =
     (at-state-count .state-count .ensures .0) q (z .0) (z .1) (z .2) (at-on-schedule .on-schedule .ensures) (c .enum-told .given .1)
 
 pub run-prepared-spec : {M : Type 1} → statement M
-run-prepared-spec =
-    tie.close
-    (tie.spec
+run-prepared-spec = tie.close (tie.spec
     (λ c κs. search needs) mul-rows add-rows add-rows-2 clear-requires (λ c. search needs) (λ c. search needs) on-schedule-requires
     (λ c. search needs) clear-requires-2 (λ c. search needs) same-length same-length-2 same-length-3 returns (λ c. search needs)
     (λ c. search needs) (λ c. search needs) returns-2)

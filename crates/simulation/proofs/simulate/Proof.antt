@@ -96,9 +96,7 @@ returns-5 c =
     (at-run-prepared .run-prepared .ensures)
 
 pub simulate-spec : {M : Type 1} → statement M
-simulate-spec =
-    tie.close
-    (tie.spec
+simulate-spec = tie.close (tie.spec
     returns returns-2 (λ c κs. search needs) (λ c. search needs) (λ c. search needs) (λ c κs. search needs) (λ c κs. search needs)
     (λ c κs. search needs) (λ c. search needs) (λ c. search needs) run-prepared-requires returns-3 returns-4 (λ c. search needs)
     (λ c. search needs) (λ c. search needs) returns-5)

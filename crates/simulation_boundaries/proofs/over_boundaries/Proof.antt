@@ -4,12 +4,11 @@ use borrow.Author.Needs.{needs}
 use native.Mathlib.Omega.{arith}
 use Prim.Native.Nat.{_≤_, _-_}
 use lib.ListN.{length, take}
-use lib.Ieee.{ofBits}
 use Rattle.limits.specs.Limits.{mostEvents}
 use Rattle.events.specs.Packed.{packed}
 use Rattle.rows.specs.Written.{cells}
 use Rattle.rows.specs.Standing.{kernelAdvance}
-use Rattle.rows.proofs.Parts.{ran-nothing, ran-fresh, ran-same, fits-fresh}
+use Rattle.rows.proofs.Parts.{ran-fresh, ran-same}
 use Rattle.events.proofs.Packing.{packed-length}
 use Rattle.simulation_boundaries.proofs.Boundaries.{Going, going-start, end-room, end-ran, here-room, here-stopped, code-room}
 use Rattle.simulation_boundaries.proofs.Boundaries.{code-stopped, code-going, marks-none}
@@ -25,12 +24,11 @@ abbrev μ-loop : tie.MeasureT-loop
 μ-loop kernel n reals words count bounds samples times₀ sides₀ values₀ last marks₀ p₀ b₀ times sides values marks p b = last - b
 
 loop-holds : tie.Need-loop-holds Inv-loop μ-loop
-unfolding ofBits
 loop-holds c =
     let s = c .before .before .before .before .before .before in (
-      going-start _ _ _ _ _ _ _ (s .pre .1) (marks-none (packed (s .args .reals .now) (s .args .words .now) (s .args .count))
-          (s .args .count) (packed-length (s .args .reals .now) (s .args .words .now) (s .args .count)) (s .pre .0))
-          (ran-nothing _ _) refl (fits-fresh (s .pre .2)),
+      going-start _ _ _ _ _ _ _ (s .args .start) (c .resumed .ensures) (s .pre .1) (marks-none
+          (packed (s .args .reals .now) (s .args .words .now) (s .args .count)) (s .args .count)
+          (packed-length (s .args .reals .now) (s .args .words .now) (s .args .count)) (s .pre .0)) (s .pre .2),
       omega arith,
       refl,
     )
@@ -42,23 +40,23 @@ at-boundary-requires c κs =
     (start .pre .0, here-room _ _ _ _ _ _ _ _ _ _ _ (at-loop .loop .inv .0) (omega arith))
 
 returns : tie.Need-returns Inv-loop μ-loop
-unfolding ofBits
 returns c =
     let at-at-boundary = c .before .before .before .before .before .before .before .before in
+    let at-loop-test = at-at-boundary .before .before .before .before .before in
+    let at-loop = at-loop-test .before in
+    let at-resumed = at-loop .before in
+    let start = at-resumed .before .before .before .before .before .before in
+    ran-fresh (start .args .start) (at-resumed .resumed .ensures) (here-stopped _ _ _ _ _ _ _ _ _ _ _ (at-loop .loop .inv .0)
+    (omega (arith, at-loop-test .loop-test .taken, start .pre .1))
+    (at-at-boundary .at-boundary .ensures (kernelAdvance (start .args .kernel) (start .args .n))) (sym (c .before .stopped .ensures) ∙ c .if1 .taken))
+
+summed-rates-requires : tie.Need-summed-rates-requires Inv-loop μ-loop
+summed-rates-requires c κs =
+    let at-mark = c .before in
+    let at-at-boundary = at-mark .before .before .before .before .before .before .before .before .before .before in
     let at-loop = at-at-boundary .before .before .before .before .before .before in
     let start = at-loop .before .before .before .before .before .before .before in
-    ran-fresh (here-stopped _ _ _ _ _ _ _ _ _ _ _ (at-loop .loop .inv .0) (omega arith)
-    (at-at-boundary .at-boundary .ensures (kernelAdvance (start .args .kernel) (start .args .n)))
-    (sym (c .before .stopped .ensures) ∙ c .if1 .taken))
-
-same-length : tie.Need-same-length Inv-loop μ-loop
-same-length c = ran-same (returns c) .times
-
-same-length-2 : tie.Need-same-length-2 Inv-loop μ-loop
-same-length-2 c = ran-same (returns c) .sides
-
-same-length-3 : tie.Need-same-length-3 Inv-loop μ-loop
-same-length-3 c = ran-same (returns c) .values
+    (start .pre .0, start .pre .2 .states, at-mark .mark .ensures .0 ∙ at-loop .loop .inv .2)
 
 add-u : tie.Need-add-u Inv-loop μ-loop
 add-u c =
@@ -93,7 +91,6 @@ on-interval-requires c κs =
     (at-summed-rates .summed-rates .ensures)
 
 returns-2 : tie.Need-returns-2 Inv-loop μ-loop
-unfolding ofBits
 returns-2 c =
     let at-on-interval = c .before .before .before .before .before .before .before .before in
     let at-summed-rates = at-on-interval .before .before .before .before .before in
@@ -103,20 +100,13 @@ returns-2 c =
     let at-at-boundary = at-stopped .before .before .before .before .before .before .before in
     let at-loop-test = at-at-boundary .before .before .before .before .before in
     let at-loop = at-loop-test .before in
-    let start = at-loop .before .before .before .before .before .before .before in
-    ran-fresh (code-stopped _ _ _ _ _ _ _ _ _ _ _ (at-loop .loop .inv .0) (omega (arith, at-loop-test .loop-test .taken, start .pre .1))
+    let at-resumed = at-loop .before in
+    let start = at-resumed .before .before .before .before .before .before in
+    ran-fresh (start .args .start) (at-resumed .resumed .ensures) (code-stopped _ _ _ _ _ _ _ _ _ _ _ (at-loop .loop .inv .0)
+    (omega (arith, at-loop-test .loop-test .taken, start .pre .1))
     (at-at-boundary .at-boundary .ensures (kernelAdvance (start .args .kernel) (start .args .n))) (at-mark .mark .ensures .1)
     (at-summed-rates .summed-rates .ensures) (sym (at-stopped .stopped .ensures) ∙ at-if1 .if1 .left)
     (at-on-interval .on-interval .ensures) (sym (c .before .stopped2 .ensures) ∙ c .if2 .taken))
-
-same-length-4 : tie.Need-same-length-4 Inv-loop μ-loop
-same-length-4 c = ran-same (returns-2 c) .times
-
-same-length-5 : tie.Need-same-length-5 Inv-loop μ-loop
-same-length-5 c = ran-same (returns-2 c) .sides
-
-same-length-6 : tie.Need-same-length-6 Inv-loop μ-loop
-same-length-6 c = ran-same (returns-2 c) .values
 
 add-b : tie.Need-add-b Inv-loop μ-loop
 add-b c =
@@ -159,30 +149,23 @@ at-boundary-requires-2 c κs =
     (s .pre .0, rw e (end-room _ _ _ _ _ _ _ _ _ _ _ (l .inv .0) (omega arith)))
 
 returns-3 : tie.Need-returns-3 Inv-loop μ-loop
-unfolding ofBits
 returns-3 c =
     let at-at-boundary2 = c .before .before .before .before .before .before in
-    let at-loop = at-at-boundary2 .before .before .before .before .before .before in
-    let start = at-loop .before .before .before .before .before .before .before in
+    let at-loop-test = at-at-boundary2 .before .before .before .before .before in
+    let at-loop = at-loop-test .before in
+    let at-resumed = at-loop .before in
+    let start = at-resumed .before .before .before .before .before .before in
     let l = at-loop .loop in
-    let e : length (start .args .bounds .now) - 1 ≡ l .b = omega arith in
-    ran-fresh (end-ran _ _ _ _ _ _ _ _ _ _ _ (l .inv .0) (omega arith) (rw e at (at-at-boundary2 .at-boundary2 .ensures
-    (kernelAdvance (start .args .kernel) (start .args .n)))))
-
-same-length-7 : tie.Need-same-length-7 Inv-loop μ-loop
-same-length-7 c = ran-same (returns-3 c) .times
-
-same-length-8 : tie.Need-same-length-8 Inv-loop μ-loop
-same-length-8 c = ran-same (returns-3 c) .sides
-
-same-length-9 : tie.Need-same-length-9 Inv-loop μ-loop
-same-length-9 c = ran-same (returns-3 c) .values
+    let e : length (start .args .bounds .now) - 1 ≡ l .b = omega (arith, at-loop-test .loop-test .left, start .pre .1, l .inv .1) in
+    ran-fresh (start .args .start) (at-resumed .resumed .ensures) (end-ran _ _ _ _ _ _ _ _ _ _ _ (l .inv .0) (omega arith)
+    (rw e at (at-at-boundary2 .at-boundary2 .ensures (kernelAdvance (start .args .kernel) (start .args .n)))))
 
 pub over-boundaries-spec : {M : Type 1} → statement M
-over-boundaries-spec =
-    tie.close
-    (tie.spec
-    Inv-loop μ-loop (λ c. search needs) loop-holds (λ c. search needs) (λ c. search needs) at-boundary-requires (λ c κs. search needs) same-length
-    same-length-2 same-length-3 returns (λ c κs. search needs) (λ c κs. search needs) add-u mul-u shared-slice-read-u
-    on-interval-requires (λ c κs. search needs) same-length-4 same-length-5 same-length-6 returns-2 add-b loop-less loop-again (λ c. search needs)
-    (λ c. search needs) at-boundary-requires-2 same-length-7 same-length-8 same-length-9 returns-3)
+over-boundaries-spec = tie.close (tie.spec
+    Inv-loop μ-loop (λ c. search needs) (λ c κs. search needs) loop-holds (λ c. search needs) (λ c. search needs)
+    at-boundary-requires (λ c κs. search needs) (λ c. ran-same (returns c) .times) (λ c. ran-same (returns c) .sides)
+    (λ c. ran-same (returns c) .values) returns (λ c κs. search needs) summed-rates-requires add-u mul-u shared-slice-read-u
+    on-interval-requires (λ c κs. search needs) (λ c. ran-same (returns-2 c) .times) (λ c. ran-same (returns-2 c) .sides)
+    (λ c. ran-same (returns-2 c) .values) returns-2 add-b loop-less loop-again (λ c. search needs) (λ c. search needs)
+    at-boundary-requires-2 (λ c. ran-same (returns-3 c) .times) (λ c. ran-same (returns-3 c) .sides)
+    (λ c. ran-same (returns-3 c) .values) returns-3)

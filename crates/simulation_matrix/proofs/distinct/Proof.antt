@@ -8,9 +8,6 @@ use Rattle.simulation_matrix.proofs.Whole.{front}
 use Rattle.simulation_matrix.proofs.distinct.Statement.{statement}
 use Rattle.simulation_matrix.proofs.distinct.Tie as tie
 
-slice-aggregate-sorted-unique : tie.Need-slice-aggregate-sorted-unique
-slice-aggregate-sorted-unique c = sym (length-take-le _ _ (search needs))
-
 returns : tie.Need-returns
 returns c =
     let at-lay = c .before .before .before .before .before .before in
@@ -20,7 +17,6 @@ returns c =
     (simp length-append (omega (arith, w .0)), take-append-le _ _ _ (w .0) ∙ rw f at (w .1), rw f at (w .2))
 
 pub distinct-spec : {M : Type 1} → statement M
-distinct-spec =
-    tie.close
-    (tie.spec
-    (λ c κs. search needs) (λ c. search needs) slice-aggregate-sorted-unique (λ c κs. search needs) (λ c. search needs) returns)
+distinct-spec = tie.close (tie.spec
+    (λ c κs. search needs) (λ c. search needs) (λ c. sym (length-take-le _ _ (search needs))) (λ c κs. search needs)
+    (λ c. search needs) returns)

@@ -11,10 +11,6 @@ use Rattle.simulation_matrix.proofs.Whole.{prepared-of, some-boundary, 
 use Rattle.simulation_matrix.proofs.on_schedule.Statement.{statement}
 use Rattle.simulation_matrix.proofs.on_schedule.Tie as tie
 
-slice-aggregate-over-boundaries : tie.Need-slice-aggregate-over-boundaries
-slice-aggregate-over-boundaries c =
-    sym (length-take-le _ _ (c .before .before .before .boundaries .ensures .0))
-
 slice-aggregate-over-boundaries-2 : tie.Need-slice-aggregate-over-boundaries-2
 slice-aggregate-over-boundaries-2 c =
     let at-distinct = c .before .before .before .before .before .before .before .before in
@@ -54,9 +50,8 @@ returns c =
     (prepared-of (g .n) (g .window) (g .samples .now) es (d .2) (b .2) (s .pre .3), rw (b .1, d .1) at (at-over-boundaries .over-boundaries .ensures))
 
 pub on-schedule-spec : {M : Type 1} → statement M
-on-schedule-spec =
-    tie.close
-    (tie.spec
-    (λ c κs. search needs) (λ c κs. search needs) (λ c. search needs) slice-aggregate-over-boundaries
-    (λ c. search needs) slice-aggregate-over-boundaries-2 over-boundaries-requires (λ c. search needs) (λ c. search needs)
-    (λ c. search needs) (λ c. search needs) (λ c. search needs) returns)
+on-schedule-spec = tie.close (tie.spec
+    (λ c κs. search needs) (λ c κs. search needs) (λ c. search needs)
+    (λ c. sym (length-take-le _ _ (c .before .before .before .boundaries .ensures .0))) (λ c. search needs)
+    slice-aggregate-over-boundaries-2 over-boundaries-requires (λ c. search needs) (λ c. search needs) (λ c. search needs)
+    (λ c. search needs) (λ c. search needs) returns)

@@ -13,7 +13,7 @@ returns c =
     let g = s .args in
     let q = at-periodic-steady-state .periodic-steady-state .ensures in
     steady
-    (record { reply = q .0; amounts = q .1 .0; residual = q .1 .1 })
+    (record { reply = q .0; amounts = q .1 .0; residuals = q .1 .1 })
     (record { start-fits = search needs; end-fits = search needs; times-fit = times-fit mostEvents (g .count) (g .events) _ (s .good .1 .1 .0) })
 
 pub periodic-steady-state-spec : {M : Type 1} → statement M

@@ -41,8 +41,6 @@ returns c =
     (record { kernel = refl; amounts = refl; start = refl; end = refl; listed = refl })
 
 pub simulate-twice-spec : {M : Type 1} → statement M
-simulate-twice-spec =
-    tie.close
-    (tie.spec
+simulate-twice-spec = tie.close (tie.spec
     (λ c κs. search needs) (λ c κs. search needs) (λ c κs. search needs) (λ c κs. search needs) (λ c. search needs) (λ c. search needs)
     (λ c. search needs) (λ c. search needs) (λ c. search needs) (λ c. search needs) returns)

@@ -10,7 +10,5 @@ returns c =
     rw (← at-kernel-at .kernel-at .ensures) (at-simulate-words .simulate-words .ensures)
 
 pub linear-pk-simulate-spec : {M : Type 1} → statement M
-linear-pk-simulate-spec =
-    tie.close
-    (tie.spec
+linear-pk-simulate-spec = tie.close (tie.spec
     (λ c κs. search needs) (λ c κs. search needs) (λ c. search needs) (λ c. search needs) (λ c. search needs) returns)

@@ -3,9 +3,7 @@ use borrow.Author.Needs.{needs}
 use Rattle.capi.proofs.steady_sheets.rig_steady_sheet.Statement.{statement}
 use Rattle.capi.proofs.steady_sheets.rig_steady_sheet.Tie as tie
 
-returns : tie.Need-returns
-returns c =
-    rw (c .number .ensures) (c .before .before .before .steady-sheet .ensures)
-
 pub rig-steady-sheet-spec : {M : Type 1} → statement M
-rig-steady-sheet-spec = tie.close (tie.spec (λ c κs. search needs) (λ c κs. search needs) (λ c. search needs) returns)
+rig-steady-sheet-spec = tie.close (tie.spec
+    (λ c κs. search needs) (λ c κs. search needs) (λ c. search needs)
+    (λ c. rw (c .number .ensures) (c .before .before .before .steady-sheet .ensures)))

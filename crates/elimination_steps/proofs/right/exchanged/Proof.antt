@@ -5,13 +5,8 @@ use Rattle.cycle.specs.Elimination.{swapped}
 use Rattle.elimination_steps.proofs.right.exchanged.Statement.{statement}
 use Rattle.elimination_steps.proofs.right.exchanged.Tie as tie
 
-returns : tie.Need-returns
-unfolding swapped
-returns c = refl
-
 pub exchanged-spec : {M : Type 1} → statement M
-exchanged-spec =
-    tie.close
-    (tie.spec
+unfolding swapped
+exchanged-spec = tie.close (tie.spec
     (λ c. search needs) (λ c. search needs) (λ c. search needs) (λ c. search needs) (λ c. search needs) (λ c. search needs)
-    (λ c. search needs) (λ c. search needs) returns)
+    (λ c. search needs) (λ c. search needs) (λ c. refl))

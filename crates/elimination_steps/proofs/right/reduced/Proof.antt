@@ -18,10 +18,6 @@ Inv-loop a right n k side₀ i₀ side i = (i ≤ n) × (side ≡ fill states i 
 abbrev μ-loop : tie.MeasureT-loop
 μ-loop a right n k side₀ i₀ side i = n - i
 
-loop-holds : tie.Need-loop-holds Inv-loop μ-loop
-unfolding fill fillFrom ofBits
-loop-holds c = (omega arith, refl)
-
 loop-again : tie.Need-loop-again Inv-loop μ-loop
 loop-again c = (omega arith, fill-more _ _ _ _ (c .before .before .loop .inv .1) (c .reduced-entry .ensures) (omega arith))
 
@@ -32,8 +28,7 @@ returns c =
     ∙ sym (tabulate-cong (s .n) (right-lead (s .n) (s .a .now) (s .right) (s .k)))
 
 pub reduced-spec : {M : Type 1} → statement M
-reduced-spec =
-    tie.close
-    (tie.spec
-    Inv-loop μ-loop loop-holds (λ c κs. search needs) (λ c. search needs) (λ c. search needs) (λ c. search needs)
-    (λ c. search needs) loop-again returns)
+unfolding fill fillFrom ofBits
+reduced-spec = tie.close (tie.spec
+    Inv-loop μ-loop (λ c. (omega arith, refl)) (λ c κs. search needs) (λ c. search needs) (λ c. search needs)
+    (λ c. search needs) (λ c. search needs) loop-again returns)

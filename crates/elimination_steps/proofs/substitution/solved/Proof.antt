@@ -28,13 +28,8 @@ loop-again c =
     let s = c .before .before in
     (omega arith, solved-more _ _ _ _ _ (s .loop-test .taken) (s .before .loop .inv .1) (c .before .solved-sum .ensures) (c .at .ensures))
 
-returns : tie.Need-returns Inv-loop μ-loop
-returns c = rw (le-antisymm (c .before .loop .inv .0) (c .loop-test .left)) at (c .before .loop .inv .1)
-
 pub solved-spec : {M : Type 1} → statement M
-solved-spec =
-    tie.close
-    (tie.spec
+solved-spec = tie.close (tie.spec
     Inv-loop μ-loop loop-holds (λ c. search needs) (λ c. search needs) (λ c κs. search needs) (λ c. search needs)
     (λ c. search needs) (λ c κs. search needs) (λ c. search needs) (λ c. search needs) (λ c. search needs) (λ c. search needs)
-    loop-again returns)
+    loop-again (λ c. rw (le-antisymm (c .before .loop .inv .0) (c .loop-test .left)) at (c .before .loop .inv .1)))

@@ -21,15 +21,9 @@ loop-holds : tie.Need-loop-holds Inv-loop μ-loop
 unfolding solvedSum sumTo ofBits neg
 loop-holds c = (omega arith, refl)
 
-loop-again : tie.Need-loop-again Inv-loop μ-loop
-loop-again c = (omega arith, sum-more _ _ _ _ (c .before .before .loop .inv .1) (c .at .ensures))
-
-returns : tie.Need-returns Inv-loop μ-loop
-returns c = rw (le-antisymm (c .before .loop .inv .0) (c .loop-test .left)) at (c .before .loop .inv .1)
-
 pub solved-sum-spec : {M : Type 1} → statement M
-solved-sum-spec =
-    tie.close
-    (tie.spec
+solved-sum-spec = tie.close (tie.spec
     Inv-loop μ-loop loop-holds (λ c. search needs) (λ c. search needs) (λ c κs. search needs) (λ c. search needs)
-    (λ c. search needs) (λ c. search needs) (λ c. search needs) (λ c. search needs) (λ c. search needs) loop-again returns)
+    (λ c. search needs) (λ c. search needs) (λ c. search needs) (λ c. search needs) (λ c. search needs)
+    (λ c. (omega arith, sum-more _ _ _ _ (c .before .before .loop .inv .1) (c .at .ensures)))
+    (λ c. rw (le-antisymm (c .before .loop .inv .0) (c .loop-test .left)) at (c .before .loop .inv .1)))

@@ -22,21 +22,14 @@ Inv-loop cells a n rows₀ i₀ rows i = (i ≤ n) × (rows ≡ updated i (λ i 
 abbrev μ-loop : tie.MeasureT-loop
 μ-loop cells a n rows₀ i₀ rows i = n - i
 
-loop-holds : tie.Need-loop-holds Inv-loop μ-loop
-unfolding updated updatedFrom ofBits
-loop-holds c = (omega arith, refl)
-
-loop-again : tie.Need-loop-again Inv-loop μ-loop
-loop-again c = (omega arith, updated-more _ [] _ _ (c .before .before .loop .inv .1) (c .row .ensures))
-
 returns : tie.Need-returns Inv-loop μ-loop
 returns c =
     table-made _ (c .before .before .args .a .now) (c .before .before .args .cells) (c .before .before .pre)
     (updated-all _ _ _ _ (c .before .loop .inv .0) (c .loop-test .left) (c .before .loop .inv .1))
 
 pub table-spec : {M : Type 1} → statement M
-table-spec =
-    tie.close
-    (tie.spec
-    Inv-loop μ-loop loop-holds (λ c κs. search needs) (λ c. search needs) (λ c. search needs)
-    (λ c. search needs) (λ c. search needs) loop-again returns)
+unfolding ofBits updated updatedFrom
+table-spec = tie.close (tie.spec
+    Inv-loop μ-loop (λ c. (omega arith, refl)) (λ c κs. search needs) (λ c. search needs) (λ c. search needs)
+    (λ c. search needs) (λ c. search needs)
+    (λ c. (omega arith, updated-more _ [] _ _ (c .before .before .loop .inv .1) (c .row .ensures))) returns)

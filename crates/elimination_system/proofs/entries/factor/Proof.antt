@@ -4,12 +4,7 @@ use Rattle.cycle.specs.Elimination.{factor}
 use Rattle.elimination_system.proofs.entries.factor.Statement.{statement}
 use Rattle.elimination_system.proofs.entries.factor.Tie as tie
 
-returns : tie.Need-returns
-unfolding factor
-returns c = rw (c .before .at .ensures, c .at2 .ensures)
-
 pub factor-spec : {M : Type 1} → statement M
-factor-spec =
-    tie.close
-    (tie.spec
-    (λ c κs. search needs) (λ c κs. search needs) returns)
+unfolding factor
+factor-spec = tie.close (tie.spec
+    (λ c κs. search needs) (λ c κs. search needs) (λ c. rw (c .before .at .ensures, c .at2 .ensures)))

@@ -20,8 +20,6 @@ returns-3 c =
     rw (lt-ltb _ _ (s .before .if1 .left), lt-ltb _ _ (s .if2 .left), c .before .before .at3 .ensures, c .before .factor .ensures, c .at4 .ensures)
 
 pub reduced-cell-spec : {M : Type 1} → statement M
-reduced-cell-spec =
-    tie.close
-    (tie.spec
+reduced-cell-spec = tie.close (tie.spec
     (λ c κs. search needs) returns (λ c κs. search needs) returns-2 (λ c κs. search needs) (λ c κs. search needs)
     (λ c κs. search needs) returns-3)

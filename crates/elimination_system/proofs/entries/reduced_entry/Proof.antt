@@ -14,8 +14,6 @@ unfolding reducedRight
 returns-2 c = rw (lt-ltb _ _ (c .before .if1 .left), c .factor .ensures)
 
 pub reduced-entry-spec : {M : Type 1} → statement M
-reduced-entry-spec =
-    tie.close
-    (tie.spec
+reduced-entry-spec = tie.close (tie.spec
     (λ c. search needs) (λ c. search needs) returns (λ c. search needs) (λ c. search needs) (λ c κs. search needs)
     (λ c. search needs) (λ c. search needs) returns-2)

@@ -15,7 +15,5 @@ unfolding systemCell
 returns-2 c = rw (ne-eqb _ _ (c .before .if1 .left), c .at2 .ensures)
 
 pub system-cell-spec : {M : Type 1} → statement M
-system-cell-spec =
-    tie.close
-    (tie.spec
+system-cell-spec = tie.close (tie.spec
     (λ c κs. search needs) (λ c κs. search needs) returns returns-2)

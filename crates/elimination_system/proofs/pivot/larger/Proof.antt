@@ -30,8 +30,6 @@ returns-2 c =
     )
 
 pub larger-spec : {M : Type 1} → statement M
-larger-spec =
-    tie.close
-    (tie.spec
+larger-spec = tie.close (tie.spec
     (λ c κs. search needs) (λ c κs. search needs) (λ c κs. search needs) (λ c κs. search needs) (λ c κs. search needs) returns
     returns-2)

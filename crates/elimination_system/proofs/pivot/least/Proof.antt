@@ -18,7 +18,5 @@ returns c =
     )
 
 pub least-spec : {M : Type 1} → statement M
-least-spec =
-    tie.close
-    (tie.spec
+least-spec = tie.close (tie.spec
     (λ c κs. search needs) (λ c κs. search needs) returns)

@@ -16,21 +16,14 @@ Inv-loop a n largest₀ i₀ largest i = (i ≤ n) × (largest ≡ normTo a n i)
 abbrev μ-loop : tie.MeasureT-loop
 μ-loop a n largest₀ i₀ largest i = n - i
 
-loop-holds : tie.Need-loop-holds Inv-loop μ-loop
-unfolding normTo ofBits
-loop-holds c = (omega arith, refl)
-
 loop-again : tie.Need-loop-again Inv-loop μ-loop
 unfolding normTo
 loop-again c =
     (omega arith, rw (add-one, c .max .ensures, c .before .row-sum .ensures, c .before .before .before .loop .inv .1))
 
-returns : tie.Need-returns Inv-loop μ-loop
-returns c = rw (le-antisymm (c .before .loop .inv .0) (c .loop-test .left)) at (c .before .loop .inv .1)
-
 pub norm-spec : {M : Type 1} → statement M
-norm-spec =
-    tie.close
-    (tie.spec
-    Inv-loop μ-loop loop-holds (λ c κs. search needs) (λ c κs. search needs) (λ c. search needs) (λ c. search needs) loop-again
-    returns)
+unfolding normTo ofBits
+norm-spec = tie.close (tie.spec
+    Inv-loop μ-loop (λ c. (omega arith, refl)) (λ c κs. search needs) (λ c κs. search needs) (λ c. search needs)
+    (λ c. search needs) loop-again
+    (λ c. rw (le-antisymm (c .before .loop .inv .0) (c .loop-test .left)) at (c .before .loop .inv .1)))

@@ -4,12 +4,7 @@ use Rattle.cycle.specs.Elimination.{pivotPasses}
 use Rattle.elimination_system.proofs.pivot.passes.Statement.{statement}
 use Rattle.elimination_system.proofs.pivot.passes.Tie as tie
 
-returns : tie.Need-returns
-unfolding pivotPasses
-returns c = rw (c .before .is-finite .ensures, c .abs .ensures)
-
 pub passes-spec : {M : Type 1} → statement M
-passes-spec =
-    tie.close
-    (tie.spec
-    (λ c κs. search needs) (λ c κs. search needs) returns)
+unfolding pivotPasses
+passes-spec = tie.close (tie.spec
+    (λ c κs. search needs) (λ c κs. search needs) (λ c. rw (c .before .is-finite .ensures, c .abs .ensures)))

@@ -22,12 +22,8 @@ loop-holds c = (omega arith, refl, omega arith)
 loop-again : tie.Need-loop-again Inv-loop μ-loop
 loop-again c = pivot-more _ _ _ _ _ (c .before .loop-test .taken) (omega arith) (c .before .before .loop .inv) (c .larger .ensures)
 
-returns : tie.Need-returns Inv-loop μ-loop
-returns c = pivot-all _ _ _ _ _ (omega arith) (omega arith) (c .loop-test .left) (c .before .loop .inv)
-
 pub row-spec : {M : Type 1} → statement M
-row-spec =
-    tie.close
-    (tie.spec
+row-spec = tie.close (tie.spec
     Inv-loop μ-loop (λ c. search needs) (λ c. search needs) loop-holds (λ c. search needs) (λ c. search needs)
-    (λ c κs. search needs) (λ c. search needs) (λ c. search needs) loop-again returns)
+    (λ c κs. search needs) (λ c. search needs) (λ c. search needs) loop-again
+    (λ c. pivot-all _ _ _ _ _ (omega arith) (omega arith) (c .loop-test .left) (c .before .loop .inv)))

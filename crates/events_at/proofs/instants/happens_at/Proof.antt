@@ -4,17 +4,7 @@ use Rattle.events.proofs.Scans.{or-none}
 use Rattle.events_at.proofs.instants.happens_at.Statement.{statement}
 use Rattle.events_at.proofs.instants.happens_at.Tie as tie
 
-returns : tie.Need-returns
-returns c = rw (c .before .event .given .1, or-none)
-
-returns-2 : tie.Need-returns-2
-returns-2 c = rw (c .before .event2 .given .1, or-none)
-
-returns-3 : tie.Need-returns-3
-returns-3 c = rw (c .before .event3 .given .1, or-none)
-
 pub happens-at-spec : {M : Type 1} → statement M
-happens-at-spec =
-    tie.close
-    (tie.spec
-    (λ c. search needs) (λ c. search needs) (λ c. search needs) returns returns-2 returns-3)
+happens-at-spec = tie.close (tie.spec
+    (λ c. search needs) (λ c. search needs) (λ c. search needs) (λ c. rw (c .before .event .given .1, or-none))
+    (λ c. rw (c .before .event2 .given .1, or-none)) (λ c. rw (c .before .event3 .given .1, or-none)))

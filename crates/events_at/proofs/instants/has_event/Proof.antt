@@ -17,10 +17,6 @@ Inv-loop reals words count t k₀ k =
 abbrev μ-loop : tie.MeasureT-loop
 μ-loop reals words count t k₀ k = count - k
 
-loop-holds : tie.Need-loop-holds Inv-loop μ-loop
-unfolding packed
-loop-holds c = (omega arith, rw left-start)
-
 returns : tie.Need-returns Inv-loop μ-loop
 returns c =
     let at-loop-test = c .before .before .before in
@@ -48,8 +44,7 @@ returns-2 c =
     .1)
 
 pub has-event-spec : {M : Type 1} → statement M
-has-event-spec =
-    tie.close
-    (tie.spec
-    Inv-loop μ-loop loop-holds (λ c κs. search needs) (λ c κs. search needs) returns (λ c. search needs) (λ c. search needs)
-    loop-again returns-2)
+unfolding packed
+has-event-spec = tie.close (tie.spec
+    Inv-loop μ-loop (λ c. (omega arith, rw left-start)) (λ c κs. search needs) (λ c κs. search needs) returns
+    (λ c. search needs) (λ c. search needs) loop-again returns-2)

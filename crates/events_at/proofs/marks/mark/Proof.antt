@@ -14,9 +14,6 @@ Inv-loop reals words count t marks₀ i₀ marks i = (i ≤ count) × (marks ≡
 abbrev μ-loop : tie.MeasureT-loop
 μ-loop reals words count t marks₀ i₀ marks i = count - i
 
-loop-holds : tie.Need-loop-holds Inv-loop μ-loop
-loop-holds c = (omega arith, behind-start _ _ _ _ _)
-
 loop-again : tie.Need-loop-again Inv-loop μ-loop
 loop-again c =
     let at-loop = c .before .before .before .before in
@@ -32,12 +29,8 @@ loop-again c =
     (λ w. (omega arith, behind-skip (g .t) (g .reals .now) (g .words .now) (g .count) (g .marks .now) (l .i) (sym s ∙ w .0 .left) (w .1 ∙ l .inv .1)))
     (c .if1 .came)
 
-returns : tie.Need-returns Inv-loop μ-loop
-returns c = behind-all _ _ _ _ _ _ (c .before .loop .inv .0) (c .loop-test .left) (c .before .loop .inv .1)
-
 pub mark-spec : {M : Type 1} → statement M
-mark-spec =
-    tie.close
-    (tie.spec
-    Inv-loop μ-loop loop-holds (λ c κs. search needs) (λ c κs. search needs) (λ c κs. search needs) (λ c κs. search needs)
-    (λ c. search needs) (λ c. search needs) loop-again returns)
+mark-spec = tie.close (tie.spec
+    Inv-loop μ-loop (λ c. (omega arith, behind-start _ _ _ _ _)) (λ c κs. search needs) (λ c κs. search needs)
+    (λ c κs. search needs) (λ c κs. search needs) (λ c. search needs) (λ c. search needs) loop-again
+    (λ c. behind-all _ _ _ _ _ _ (c .before .loop .inv .0) (c .loop-test .left) (c .before .loop .inv .1)))

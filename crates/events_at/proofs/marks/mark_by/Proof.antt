@@ -15,20 +15,13 @@ Inv-loop reals words count t target marks₀ k₀ marks k = (k ≤ count) × (ma
 abbrev μ-loop : tie.MeasureT-loop
 μ-loop reals words count t target marks₀ k₀ marks k = count - k
 
-loop-holds : tie.Need-loop-holds Inv-loop μ-loop
-loop-holds c = (omega arith, marked-none _ _ _ _ _)
-
 loop-again : tie.Need-loop-again Inv-loop μ-loop
 loop-again c =
     let at-loop = c .before .before .before .before in
     (omega arith, marked-more _ _ _ _ _ _ (rw (c .before .event-at .ensures) at (c .runs .ensures)) (at-loop .loop .inv .1))
 
-returns : tie.Need-returns Inv-loop μ-loop
-returns c = rw (le-antisymm (c .before .loop .inv .0) (c .loop-test .left)) at (c .before .loop .inv .1)
-
 pub mark-by-spec : {M : Type 1} → statement M
-mark-by-spec =
-    tie.close
-    (tie.spec
-    Inv-loop μ-loop loop-holds (λ c. search needs) (λ c κs. search needs) (λ c κs. search needs) (λ c. search needs)
-    (λ c. search needs) (λ c. search needs) loop-again returns)
+mark-by-spec = tie.close (tie.spec
+    Inv-loop μ-loop (λ c. (omega arith, marked-none _ _ _ _ _)) (λ c. search needs) (λ c κs. search needs)
+    (λ c κs. search needs) (λ c. search needs) (λ c. search needs) (λ c. search needs) loop-again
+    (λ c. rw (le-antisymm (c .before .loop .inv .0) (c .loop-test .left)) at (c .before .loop .inv .1)))

@@ -66,9 +66,7 @@ returns : tie.Need-returns Inv-loop μ-loop
 returns c = rates-done (c .before .before .args .n) _ _ _ _ (c .before .loop .k) (c .before .loop .rates) (c .loop-test .left) (c .before .loop .inv .2)
 
 pub summed-rates-spec : {M : Type 1} → statement M
-summed-rates-spec =
-    tie.close
-    (tie.spec
+summed-rates-spec = tie.close (tie.spec
     Inv-loop μ-loop loop-holds (λ c κs. search needs) (λ c. search needs) (λ c κs. search needs) (λ c κs. search needs)
     (λ c. search needs) (λ c. search needs) (λ c κs. search needs) (λ c. search needs) (λ c. search needs) (λ c. search needs)
     (λ c. search needs) loop-again returns)

@@ -5,12 +5,7 @@ use lib.Ieee.{ofBits}
 use Rattle.linear_pk.proofs.bind.not_bound.Statement.{statement}
 use Rattle.linear_pk.proofs.bind.not_bound.Tie as tie
 
-returns : tie.Need-returns
-unfolding ofBits
-returns c = (refl, rw (c .none .ensures))
-
 pub not-bound-spec : {M : Type 1} → statement M
-not-bound-spec =
-    tie.close
-    (tie.spec
-    (λ c κs. search needs) returns)
+unfolding ofBits
+not-bound-spec = tie.close (tie.spec
+    (λ c κs. search needs) (λ c. (refl, rw (c .none .ensures))))

@@ -4,9 +4,6 @@ use borrow.Author.Tests.{not-true, not-false}
 use Rattle.linear_pk.proofs.kernel.check.Statement.{statement}
 use Rattle.linear_pk.proofs.kernel.check.Tie as tie
 
-returns : tie.Need-returns
-returns c = rw (← c .before .volumes-pass .ensures, not-true (c .before .volumes-pass .result) (c .if1 .taken))
-
 returns-2 : tie.Need-returns-2
 returns-2 c =
     let at-volumes-pass = c .before .before .before in
@@ -28,7 +25,7 @@ returns-3 c =
     )
 
 pub check-spec : {M : Type 1} → statement M
-check-spec =
-    tie.close
-    (tie.spec
-    (λ c κs. search needs) returns (λ c κs. search needs) returns-2 returns-3)
+check-spec = tie.close (tie.spec
+    (λ c κs. search needs)
+    (λ c. rw (← c .before .volumes-pass .ensures, not-true (c .before .volumes-pass .result) (c .if1 .taken)))
+    (λ c κs. search needs) returns-2 returns-3)

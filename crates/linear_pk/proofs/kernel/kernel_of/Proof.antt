@@ -17,8 +17,6 @@ returns c =
     )
 
 pub kernel-of-spec : {M : Type 1} → statement M
-kernel-of-spec =
-    tie.close
-    (tie.spec
+kernel-of-spec = tie.close (tie.spec
     (λ c κs. search needs) (λ c κs. search needs) (λ c. search needs) (λ c κs. search needs) (λ c κs. search needs)
     (λ c κs. search needs) returns)

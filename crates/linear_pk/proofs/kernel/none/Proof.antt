@@ -4,12 +4,7 @@ use lib.Ieee.{ofBits}
 use Rattle.linear_pk.proofs.kernel.none.Statement.{statement}
 use Rattle.linear_pk.proofs.kernel.none.Tie as tie
 
-returns : tie.Need-returns
-unfolding ofBits
-returns c = refl
-
 pub none-spec : {M : Type 1} → statement M
-none-spec =
-    tie.close
-    (tie.spec
-    returns)
+unfolding ofBits
+none-spec = tie.close (tie.spec
+    (λ c. refl))

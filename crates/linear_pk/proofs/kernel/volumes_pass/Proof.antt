@@ -14,21 +14,13 @@ use Rattle.linear_pk.proofs.kernel.volumes_pass.Tie as tie
 counts : (k : LinearPk) {n : ℕ} → n ≡ stateCount k → (n ≡ 0 → ⊥) → compartmentsPass k ≡ true
 counts k e n = some-states k (λ z. n (e ∙ z))
 
-returns : tie.Need-returns
-returns c = rw (no-states _ (sym (c .before .state-count .ensures .0) ∙ c .if1 .taken))
-
 returns-2 : tie.Need-returns-2
 returns-2 c =
     let s = c .before .before in
     sym (volumes-by (s .before .before .args .kernel) (counts _ (s .before .state-count .ensures .0) (s .if1 .left)) (c .all-positive .ensures))
 
 pub volumes-pass-spec : {M : Type 1} → statement M
-volumes-pass-spec =
-    tie.close
-    (tie.spec
-    (λ c κs. search needs) returns
-    (λ c κs. let s = c .before in omega (
-      arith,
-      few-volumes (s .before .before .args .kernel)
-          (counts _ (s .before .state-count .ensures .0) (s .if1 .left)),
-    )) returns-2)
+volumes-pass-spec = tie.close (tie.spec
+    (λ c κs. search needs) (λ c. rw (no-states _ (sym (c .before .state-count .ensures .0) ∙ c .if1 .taken)))
+    (λ c κs. let s = c .before in omega (arith, few-volumes (s .before .before .args .kernel) (counts _ (s .before .state-count .ensures .0) (s .if1 .left))))
+    returns-2)

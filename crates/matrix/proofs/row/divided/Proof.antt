@@ -31,8 +31,6 @@ unfolding rowQuotient
 returns c = filled _ _ _ _ (c .before .loop .inv .0) (c .loop-test .left) (c .before .loop .inv .1)
 
 pub divided-spec : {M : Type 1} → statement M
-divided-spec =
-    tie.close
-    (tie.spec
+divided-spec = tie.close (tie.spec
     Inv-loop μ-loop loop-holds (λ c. search needs) (λ c. search needs) (λ c. search needs) (λ c. search needs) (λ c. search needs)
     (λ c. search needs) loop-again returns)

@@ -31,8 +31,6 @@ unfolding rowHalf
 returns c = filled _ _ _ _ (c .before .loop .inv .0) (c .loop-test .left) (c .before .loop .inv .1)
 
 pub halved-spec : {M : Type 1} → statement M
-halved-spec =
-    tie.close
-    (tie.spec
+halved-spec = tie.close (tie.spec
     Inv-loop μ-loop loop-holds (λ c. search needs) (λ c. search needs) (λ c. search needs) (λ c. search needs) (λ c. search needs)
     (λ c. search needs) loop-again returns)

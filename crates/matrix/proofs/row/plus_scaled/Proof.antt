@@ -31,8 +31,6 @@ unfolding scaledSum
 returns c = filled _ _ _ _ (c .before .loop .inv .0) (c .loop-test .left) (c .before .loop .inv .1)
 
 pub plus-scaled-spec : {M : Type 1} → statement M
-plus-scaled-spec =
-    tie.close
-    (tie.spec
+plus-scaled-spec = tie.close (tie.spec
     Inv-loop μ-loop loop-holds (λ c. search needs) (λ c. search needs) (λ c. search needs) (λ c. search needs) (λ c. search needs)
     (λ c. search needs) (λ c. search needs) (λ c. search needs) loop-again returns)

@@ -21,16 +21,9 @@ loop-holds : tie.Need-loop-holds Inv-loop μ-loop
 unfolding rowTimes tabulate tabulateFrom sumTo ofBits neg
 loop-holds c = (omega arith, refl)
 
-loop-again : tie.Need-loop-again Inv-loop μ-loop
-loop-again c =
-    (omega arith, times-more _ _ _ (c .before .before .before .loop .inv .1) (c .plus-scaled .ensures))
-
-returns : tie.Need-returns Inv-loop μ-loop
-returns c = rw (le-antisymm (c .before .loop .inv .0) (c .loop-test .left)) at (c .before .loop .inv .1)
-
 pub times-spec : {M : Type 1} → statement M
-times-spec =
-    tie.close
-    (tie.spec
+times-spec = tie.close (tie.spec
     Inv-loop μ-loop loop-holds (λ c. search needs) (λ c. search needs) (λ c. search needs) (λ c. search needs)
-    (λ c κs. search needs) (λ c. search needs) (λ c. search needs) loop-again returns)
+    (λ c κs. search needs) (λ c. search needs) (λ c. search needs)
+    (λ c. (omega arith, times-more _ _ _ (c .before .before .before .loop .inv .1) (c .plus-scaled .ensures)))
+    (λ c. rw (le-antisymm (c .before .loop .inv .0) (c .loop-test .left)) at (c .before .loop .inv .1)))

@@ -47,8 +47,6 @@ returns-3 c =
     rw (e, packed-length (g .reals .now) (g .words .now) (g .count), c .if1 .left)
 
 pub admitted-spec : {M : Type 1} → statement M
-admitted-spec =
-    tie.close
-    (tie.spec
+admitted-spec = tie.close (tie.spec
     (λ c κs. search needs) (λ c. search needs) (λ c. search needs) (λ c. search needs) (λ c. search needs)
     (λ c. search needs) mul-if1 returns returns-2 returns-3)

@@ -12,8 +12,6 @@ abbrev μ-loop : tie.MeasureT-loop
 μ-loop out text ok₀ i₀ ok i = length text - i
 
 pub has-text-spec : {M : Type 1} → statement M
-has-text-spec =
-    tie.close
-    (tie.spec
+has-text-spec = tie.close (tie.spec
     Inv-loop μ-loop (λ c. search needs) (λ c. search needs) (λ c. search needs) (λ c κs. search needs)
     (λ c. search needs) (λ c. search needs) (λ c. search needs) (λ c. search needs))

@@ -11,8 +11,6 @@ abbrev μ-loop : tie.MeasureT-loop
 μ-loop out from ok₀ i₀ ok i = 2048 - i
 
 pub kept-spec : {M : Type 1} → statement M
-kept-spec =
-    tie.close
-    (tie.spec
+kept-spec = tie.close (tie.spec
     Inv-loop μ-loop (λ c. search needs) (λ c. search needs) (λ c. search needs) (λ c. search needs) (λ c. search needs)
     (λ c. search needs))

@@ -13,12 +13,8 @@ Inv-loop words at list₀ i₀ list i = (i ≤ 5) × (length list ≡ 5)
 abbrev μ-loop : tie.MeasureT-loop
 μ-loop words at list₀ i₀ list i = 5 - i
 
-loop-again : tie.Need-loop-again Inv-loop μ-loop
-loop-again c = simp length-set (omega arith)
-
 pub doubles-spec : {M : Type 1} → statement M
-doubles-spec =
-    tie.close
-    (tie.spec
+doubles-spec = tie.close (tie.spec
     Inv-loop μ-loop (λ c. search needs) (λ c. search needs) (λ c. search needs) (λ c. search needs) (λ c. search needs)
-    (λ c κs. search needs) (λ c. search needs) (λ c. search needs) (λ c. search needs) (λ c. search needs) loop-again (λ c. search needs))
+    (λ c κs. search needs) (λ c. search needs) (λ c. search needs) (λ c. search needs) (λ c. search needs)
+    (λ c. simp length-set (omega arith)) (λ c. search needs))

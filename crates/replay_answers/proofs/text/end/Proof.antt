@@ -12,8 +12,6 @@ abbrev μ-loop : tie.MeasureT-loop
 μ-loop text at byte end₀ end = length text - end
 
 pub end-spec : {M : Type 1} → statement M
-end-spec =
-    tie.close
-    (tie.spec
+end-spec = tie.close (tie.spec
     Inv-loop μ-loop (λ c. search needs) (λ c. search needs) (λ c. search needs) (λ c. search needs) (λ c. search needs)
     (λ c. search needs) (λ c. search needs))

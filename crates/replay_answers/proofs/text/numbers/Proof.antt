@@ -12,9 +12,7 @@ abbrev μ-loop : tie.MeasureT-loop
 μ-loop line words₀ at₀ count₀ words at count = 256 - count
 
 pub numbers-spec : {M : Type 1} → statement M
-numbers-spec =
-    tie.close
-    (tie.spec
+numbers-spec = tie.close (tie.spec
     Inv-loop μ-loop (λ c. search needs) (λ c κs. search needs) (λ c. search needs) (λ c. search needs) (λ c. search needs)
     (λ c κs. search needs) (λ c. search needs) (λ c. search needs) (λ c. search needs) (λ c. search needs) (λ c. search needs)
     (λ c. search needs) (λ c. search needs) (λ c. search needs) (λ c. search needs) (λ c. search needs) (λ c. search needs))

@@ -11,7 +11,5 @@ abbrev μ-loop : tie.MeasureT-loop
 μ-loop pieces from ok₀ i₀ ok i = 120 - i
 
 pub kept-spec : {M : Type 1} → statement M
-kept-spec =
-    tie.close
-    (tie.spec
+kept-spec = tie.close (tie.spec
     Inv-loop μ-loop (λ c. search needs) (λ c. search needs) (λ c. search needs) (λ c. search needs) (λ c. search needs) (λ c. search needs) (λ c. search needs))

@@ -11,8 +11,6 @@ abbrev μ-loop : tie.MeasureT-loop
 μ-loop pieces count words at ok₀ i₀ ok i = count - i
 
 pub words-agree-spec : {M : Type 1} → statement M
-words-agree-spec =
-    tie.close
-    (tie.spec
+words-agree-spec = tie.close (tie.spec
     Inv-loop μ-loop (λ c. search needs) (λ c. search needs) (λ c. search needs) (λ c. search needs) (λ c. search needs) (λ c. search needs)
     (λ c. search needs) (λ c. search needs) (λ c. search needs) (λ c. search needs))

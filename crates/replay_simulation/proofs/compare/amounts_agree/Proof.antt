@@ -11,8 +11,6 @@ abbrev μ-loop : tie.MeasureT-loop
 μ-loop words at reached n values cell ok₀ j₀ ok j = n - j
 
 pub amounts-agree-spec : {M : Type 1} → statement M
-amounts-agree-spec =
-    tie.close
-    (tie.spec
+amounts-agree-spec = tie.close (tie.spec
     Inv-loop μ-loop (λ c. search needs) (λ c. search needs) (λ c. search needs) (λ c. search needs) (λ c. search needs)
     (λ c κs. search needs) (λ c κs. search needs) (λ c. search needs) (λ c. search needs) (λ c. search needs) (λ c. search needs))

@@ -11,9 +11,7 @@ abbrev μ-loop : tie.MeasureT-loop
 μ-loop words shape times sides values n count at₀ cell₀ ok₀ i₀ at cell ok i = count - i
 
 pub rows-agree-spec : {M : Type 1} → statement M
-rows-agree-spec =
-    tie.close
-    (tie.spec
+rows-agree-spec = tie.close (tie.spec
     Inv-loop μ-loop (λ c κs. search needs) (λ c κs. search needs) (λ c. search needs) (λ c. search needs) (λ c. search needs)
     (λ c. search needs) (λ c. search needs) (λ c κs. search needs) (λ c. search needs) (λ c. search needs) (λ c. search needs)
     (λ c. search needs) (λ c. search needs) (λ c. search needs) (λ c. search needs))

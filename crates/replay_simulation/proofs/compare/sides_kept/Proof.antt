@@ -12,8 +12,6 @@ abbrev μ-loop : tie.MeasureT-loop
 μ-loop list from ok₀ i₀ ok i = length list - i
 
 pub sides-kept-spec : {M : Type 1} → statement M
-sides-kept-spec =
-    tie.close
-    (tie.spec
+sides-kept-spec = tie.close (tie.spec
     Inv-loop μ-loop (λ c. search needs) (λ c. search needs) (λ c. search needs) (λ c. search needs) (λ c. search needs)
     (λ c. search needs))

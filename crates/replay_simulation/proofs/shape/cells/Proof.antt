@@ -4,11 +4,6 @@ use native.Mathlib.Omega.{arith}
 use Rattle.replay_simulation.proofs.shape.cells.Statement.{statement}
 use Rattle.replay_simulation.proofs.shape.cells.Tie as tie
 
-mul-result : tie.Need-mul-result
-mul-result c = omega (arith, mul-le-mul (c .pre .0) (c .pre .1))
-
-returns : tie.Need-returns
-returns c = mul-le-mul (c .pre .0) (c .pre .1)
-
 pub cells-spec : {M : Type 1} → statement M
-cells-spec = tie.close (tie.spec mul-result returns)
+cells-spec = tie.close (tie.spec
+    (λ c. omega (arith, mul-le-mul (c .pre .0) (c .pre .1))) (λ c. mul-le-mul (c .pre .0) (c .pre .1)))

@@ -107,8 +107,6 @@ returns-4 c =
     ) (c .before .before .interval .ensures)
 
 pub advance-spec : {M : Type 1} → statement M
-advance-spec =
-    tie.close
-    (tie.spec
+advance-spec = tie.close (tie.spec
     (λ c κs. search needs) (λ c. search needs) (λ c. search needs) (λ c κs. search needs) (λ c κs. search needs)
     (λ c κs. search needs) (λ c κs. search needs) returns returns-2 interval-requires returns-3 (λ c. search needs) returns-4)

@@ -47,8 +47,6 @@ returns-3 c =
     ) (refl, refl)
 
 pub bind-spec : {M : Type 1} → statement M
-bind-spec =
-    tie.close
-    (tie.spec
+bind-spec = tie.close (tie.spec
     (λ c κs. search needs) (λ c. search needs) (λ c κs. search needs) (λ c. search needs) (λ c κs. search needs)
     (λ c κs. search needs) (λ c κs. search needs) returns (λ c κs. search needs) returns-2 returns-3)

@@ -28,8 +28,6 @@ returns-2 c =
     ) (c .before .before .concentrations .ensures)
 
 pub concentrations-spec : {M : Type 1} → statement M
-concentrations-spec =
-    tie.close
-    (tie.spec
+concentrations-spec = tie.close (tie.spec
     (λ c κs. search needs) (λ c. search needs) (λ c. search needs) (λ c κs. search needs) concentrations-requires returns
     (λ c. search needs) returns-2)

@@ -79,9 +79,7 @@ returns-6 c =
     ) (refl, refl)
 
 pub new-spec : {M : Type 1} → statement M
-new-spec =
-    tie.close
-    (tie.spec
+new-spec = tie.close (tie.spec
     (λ c κs. search needs) returns (λ c κs. search needs) returns-2 (λ c. search needs) (λ c κs. search needs) returns-3
     (λ c κs. search needs) (λ c κs. search needs) returns-4 (λ c κs. search needs) (λ c κs. search needs) (λ c κs. search needs)
     returns-5 returns-6)

@@ -7,10 +7,6 @@ use borrow.Author.Tests.{lt-ltb, le-leb, lt-leb}
 use Rattle.linear_pk.proofs.kernel.LinearPk.state_count.Statement.{statement}
 use Rattle.linear_pk.proofs.kernel.LinearPk.state_count.Tie as tie
 
-returns : tie.Need-returns
-unfolding stateCount
-returns c = (rw (c .if1 .taken), omega arith)
-
 returns-2 : tie.Need-returns-2
 unfolding stateCount
 returns-2 c = (
@@ -41,7 +37,6 @@ returns-4 c =
     )
 
 pub state-count-spec : {M : Type 1} → statement M
-state-count-spec =
-    tie.close
-    (tie.spec
-    returns returns-2 (λ c. search needs) returns-3 returns-4)
+unfolding stateCount
+state-count-spec = tie.close (tie.spec
+    (λ c. (rw (c .if1 .taken), omega arith)) returns-2 (λ c. search needs) returns-3 returns-4)

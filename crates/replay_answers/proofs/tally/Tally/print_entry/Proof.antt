@@ -11,8 +11,6 @@ abbrev μ-loop : tie.MeasureT-loop
 μ-loop entry name counts reply₀ reply = 41 - reply
 
 pub print-entry-spec : {M : Type 1} → statement M
-print-entry-spec =
-    tie.close
-    (tie.spec
+print-entry-spec = tie.close (tie.spec
     Inv-loop μ-loop (λ c. search needs) (λ c. search needs) (λ c. search needs) (λ c. search needs) (λ c. search needs)
     (λ c κs. search needs) (λ c. search needs) (λ c. search needs) (λ c. search needs) (λ c. search needs))
