@@ -27,7 +27,8 @@ pub extern "C" fn linear_pk_normalize_periodic_cycle(
     folded: &mut [u64],
     count: &mut usize,
 ) -> u64
-    ensures { λ r. ⌜ r ≡ number (foldWords (kernelAt (now (kernel .entry))) (windowFrom start end rtol atol propagations «event_budget» «output_budget») (now (events .entry)) (now (samples .entry)) (length (now (folded .entry)))) ⌝ }
+    ensures { λ r. ⌜ r ≡ number (foldWords (kernelAt (now (kernel .entry)))
+        (windowFrom start end rtol atol propagations «event_budget» «output_budget») (now (events .entry)) (now (samples .entry)) (length (now (folded .entry)))) ⌝ }
     ensures { λ r. ⌜ now (count .exit) ≡ length (valueOr (foldWords (kernelAt (now (kernel .entry)))
         (windowFrom start end rtol atol propagations «event_budget» «output_budget») (now (events .entry)) (now (samples .entry))
         (length (now (folded .entry)))) []) ⌝ }

@@ -35,7 +35,9 @@ returns-2 c =
     let at-events-fit = at-if1 .before in
     let g = at-events-fit .before .before .before .before .args in
     refused-words _ _ (fold-short (g .kernel) (g .window) (g .events .now) (g .samples .now) (length (g .folded .now))
-    (sym (at-events-fit .events-fit .ensures) ∙ not-false _ (at-if1 .if1 .left)) (at-normalize-periodic-cycle .normalize-periodic-cycle .result) (rw (at-events-of .events-of .ensures) at (at-normalize-periodic-cycle .normalize-periodic-cycle .ensures)) (c .before .enum-told .given .1) (c .if2 .taken))
+    (sym (at-events-fit .events-fit .ensures) ∙ not-false _ (at-if1 .if1 .left))
+    (at-normalize-periodic-cycle .normalize-periodic-cycle .result) (rw (at-events-of .events-of .ensures) at
+    (at-normalize-periodic-cycle .normalize-periodic-cycle .ensures)) (c .before .enum-told .given .1) (c .if2 .taken))
 
 put-list-requires : tie.Need-put-list-requires
 put-list-requires c κs =
@@ -46,7 +48,9 @@ put-list-requires c κs =
     let at-events-fit = at-if1 .before in
     let g = at-events-fit .before .before .before .before .args in (
       count-room (g .kernel) (g .window) (g .events .now) (g .samples .now) (length (g .folded .now))
-          (sym (at-events-fit .events-fit .ensures) ∙ not-false _ (at-if1 .if1 .left)) (at-normalize-periodic-cycle .normalize-periodic-cycle .result) (rw (at-events-of .events-of .ensures) at (at-normalize-periodic-cycle .normalize-periodic-cycle .ensures)) (at-enum-told .enum-told .given .1),
+          (sym (at-events-fit .events-fit .ensures) ∙ not-false _ (at-if1 .if1 .left))
+          (at-normalize-periodic-cycle .normalize-periodic-cycle .result) (rw (at-events-of .events-of .ensures) at
+          (at-normalize-periodic-cycle .normalize-periodic-cycle .ensures)) (at-enum-told .enum-told .given .1),
       c .before .before .if2 .left,
     )
 
@@ -58,7 +62,9 @@ returns-3 c =
     let at-events-fit = at-if1 .before in
     let g = at-events-fit .before .before .before .before .args in
     (refused-words _ _ (fold-refused (g .kernel) (g .window) (g .events .now) (g .samples .now) (length (g .folded .now))
-    (sym (at-events-fit .events-fit .ensures) ∙ not-false _ (at-if1 .if1 .left)) (at-normalize-periodic-cycle .normalize-periodic-cycle .result) (rw (at-events-of .events-of .ensures) at (at-normalize-periodic-cycle .normalize-periodic-cycle .ensures)) (c .before .reply .given .0 .0) (c .before .reply .given .1)))
+    (sym (at-events-fit .events-fit .ensures) ∙ not-false _ (at-if1 .if1 .left))
+    (at-normalize-periodic-cycle .normalize-periodic-cycle .result) (rw (at-events-of .events-of .ensures) at
+    (at-normalize-periodic-cycle .normalize-periodic-cycle .ensures)) (c .before .reply .given .0 .0) (c .before .reply .given .1)))
 
 returns-4 : tie.Need-returns-4
 returns-4 c =

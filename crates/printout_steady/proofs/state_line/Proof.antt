@@ -27,7 +27,8 @@ unfolding stateLine
 returns c =
     let b = c .before .before .before .before .before .before .before in
     let a = b .before .before .before .before in
-    wrote-both (wrote-both (wrote-both (a .before .before .before .before .before .put-bits .ensures) (a .put-text .ensures))
+    let first = a .before .before .before .before .before .put-bits .ensures in
+    wrote-both (wrote-both (wrote-both first (a .put-text .ensures))
     (b .put-bits2 .ensures)) (c .before .before .put-text2 .ensures)
 
 pub state-line-spec : {M : Type 1} → statement M
