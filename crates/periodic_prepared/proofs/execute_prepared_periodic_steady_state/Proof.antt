@@ -38,7 +38,7 @@ returns-3 c =
       le-leb (g .n) (length (g .amounts .now)) (at-if1 .if1 .left),
       le-leb (g .n) (length (g .residual .now)) (at-if2 .if2 .left),
     ) in
-    refuses (g .amounts .now) (g .residual .now) refl
+    refuses {x = c .before .solved .given .0 .0} (g .amounts .now) (g .residual .now) refl
     (candidate-none (propagatorOf (g .kernel)) (g .n) (g .window) (g .tolerance) (packed (g .reals .now) (g .words .now) (g .count)) room
     (rw (c .before .solved .given .1) at (at-solution .solution .ensures)))
 
@@ -55,7 +55,7 @@ returns-4 c =
       le-leb (g .n) (length (g .amounts .now)) (at-if1 .if1 .left),
       le-leb (g .n) (length (g .residual .now)) (at-if2 .if2 .left),
     ) in
-    refuses (g .amounts .now) (g .residual .now) refl
+    refuses {x = c .before .reply .given .0 .0} (g .amounts .now) (g .residual .now) refl
     (candidate-some (propagatorOf (g .kernel)) (g .n) (g .window) (g .tolerance) (packed (g .reals .now) (g .words .now) (g .count)) room
     (rw (at-enum-told .enum-told .given .1) at (at-solution .solution .ensures)) (rw (c .before .reply .given .1) at
     (at-accepted .accepted .ensures)))
