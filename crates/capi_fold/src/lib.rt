@@ -1,4 +1,5 @@
 // The folded cycle over words, six to an event, for the C interface.
+#![tactic(auto)]
 ghost use Rattle.std.specs.Prelude.{◌≡◌, [], map, ◌≤◌, ◌*◌, length, take};
 ghost use Rattle.limits.specs.Limits.{most_events, event_size};
 ghost use Rattle.refusal.specs.Numbers.{reply_number};
@@ -15,7 +16,7 @@ use protocol::Window;
 use refusal::{Refusal, Reply};
 
 // Whether the list is folded, and how many events it has.
-#[derive(Drop)]
+#[derive(Clone, Copy)]
 pub struct FoldedWords {
     pub reply: Reply,
     pub count: usize,

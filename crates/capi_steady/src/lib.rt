@@ -1,4 +1,5 @@
 // The closed cycle of events that are laid out as words, six to an event, for the C interface.
+#![tactic(auto)]
 ghost use Rattle.std.specs.Prelude.{◌≡◌, length};
 ghost use Rattle.cycle.specs.Closed.{steady_report_of, answer_at_exit};
 ghost use Rattle.periodic_acceptance.specs.Entry.{steady_room, steady_reply};
@@ -12,7 +13,7 @@ use protocol::Window;
 use refusal::{Refusal, Reply};
 
 // Whether a cycle is accepted, or its refusal, with the values of either.
-#[derive(Drop)]
+#[derive(Clone, Copy)]
 pub struct TimedReply {
     pub reply: Reply,
     pub time: f64,

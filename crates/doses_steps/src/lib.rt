@@ -1,4 +1,5 @@
 // Single steps at a boundary: the state is checked, or a reset or a bolus is applied and the state checked.
+#![tactic(auto)]
 ghost use Rattle.std.specs.Prelude.{◌≡◌, ◌≤◌, take, [], ◌∷◌, map};
 ghost use Rattle.limits.specs.Limits.{states};
 ghost use Rattle.binary64.specs.Doubles.{nonnegative};

@@ -1,4 +1,5 @@
 // Gaussian elimination with partial pivoting and back substitution, in arrays of which the leading n by n part is in use.
+#![tactic(auto)]
 ghost use Rattle.std.specs.Prelude.{◌≡◌, ◌≤◌, take};
 ghost use Rattle.limits.specs.Limits.{states};
 ghost use Rattle.matrix.specs.Matrix.{table as table_of};
@@ -21,7 +22,7 @@ pub fn system(n: usize, columns: &[[f64; STATES]; STATES]) -> [[f64; STATES]; ST
 }
 
 // The amounts, where the reply is done.
-#[derive(Drop)]
+#[derive(Clone, Copy)]
 pub struct Solution {
     pub reply: Reply,
     pub amounts: [f64; STATES],

@@ -8,7 +8,7 @@ ghost use Rattle.elimination_steps.specs.Tables.{cell_of};
 use elimination_system::entries::{reduced_cell, system_cell};
 use limits::STATES;
 
-#[derive(Drop)]
+#[derive(Clone, Copy)]
 pub enum Cells {
     // Identity minus the columns, of which the array has one in each row.
     System,

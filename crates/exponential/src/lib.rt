@@ -1,5 +1,6 @@
 // The exponential of a block by scaling and squaring of its Taylor series.
 // Matrices are arrays of arrays, of which the leading m by m part is in use.
+#![tactic(auto)]
 ghost use Rattle.std.specs.Prelude.{◌≡◌, ◌≤◌, length};
 ghost use Rattle.limits.specs.Limits.{block};
 ghost use Rattle.matrix.specs.Arrays.{lead, Holds};
@@ -21,7 +22,7 @@ fn taylor(a: [[f64; BLOCK]; BLOCK], m: usize, count: usize) -> [[f64; BLOCK]; BL
 }
 
 // What the exponential of a block gives beside the propagator: the halvings that it took, or why there is none.
-#[derive(Drop)]
+#[derive(Clone, Copy)]
 pub enum Outcome {
     Done(usize),
     NormNotFinite,

@@ -1,5 +1,6 @@
 // The norm of a block, how often it is halved, and whether a block is finite.
 // Matrices are arrays of arrays, of which the leading m by m part is in use.
+#![tactic(auto)]
 ghost use Rattle.std.specs.Prelude.{◌≡◌, ◌≤◌, ◌<◌};
 ghost use Rattle.std.specs.Float.Ieee.Scale.{finite};
 ghost use Rattle.limits.specs.Limits.{block};
@@ -34,7 +35,7 @@ pub fn norm(a: &[[f64; BLOCK]; BLOCK], m: usize) -> f64
 }
 
 // How many halvings bring a norm to the threshold or below.
-#[derive(Drop)]
+#[derive(Clone, Copy)]
 pub enum Halvings {
     Count(usize),
     NormNotFinite,

@@ -1,4 +1,5 @@
 // The list of a cycle in an array of places, what is answered with it, and its events.
+#![tactic(auto)]
 ghost use Rattle.std.specs.Prelude.{◌≡◌, ◌≤◌, get_or, map};
 ghost use Rattle.limits.specs.Limits.{most_events};
 ghost use Rattle.refusal.specs.Result.{refused};
@@ -12,13 +13,13 @@ use limits::EVENTS;
 use protocol::Event;
 use refusal::{Refusal, Reply};
 
-#[derive(Drop)]
+#[derive(Clone, Copy)]
 pub struct Place {
     pub event: Event,
 }
 
 // The reply, how many events the folded list has, and the list in the first places.
-#[derive(Drop)]
+#[derive(Clone, Copy)]
 pub struct FoldedCycle {
     pub reply: Reply,
     pub count: usize,

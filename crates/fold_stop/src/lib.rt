@@ -1,5 +1,6 @@
 // The reply of a fold, whether an infusion of a cycle passes, and its earliest stop among the resets of a list.
 // The list so far stands packed in the first `at` places of two arrays, and what a fold gives goes behind it.
+#![tactic(auto)]
 ghost use Rattle.std.specs.Prelude.{◌≡◌, cond, ◌≤◌};
 ghost use Rattle.limits.specs.Limits.{most_events};
 ghost use Rattle.cycle.specs.Fold.{infusion_passes, stopping as stoppingOf, next_time, earlier as earlierOf, stop_of};
@@ -12,7 +13,7 @@ use protocol::Event;
 use refusal::{Refusal, Reply};
 
 // The reply, and how many places the list takes; 0 at a refusal.
-#[derive(Drop)]
+#[derive(Clone, Copy)]
 pub struct Folding {
     pub reply: Reply,
     pub count: usize,

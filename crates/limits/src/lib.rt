@@ -1,4 +1,5 @@
 // The limits of document 01, and the sizes that follow from them. specs/Limits.antt has the same.
+#![tactic(auto)]
 
 // The most states: depot, central and peripherals.
 pub const STATES: usize = 4;

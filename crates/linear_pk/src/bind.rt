@@ -9,7 +9,7 @@ use crate::kernel::LinearPk;
 use limits::STATES;
 use refusal::{Refusal, Reply};
 
-#[derive(Drop)]
+#[derive(Clone, Copy)]
 pub struct BoundLinearPk {
     pub kernel: LinearPk,
     // Amounts from place 0; +0 past the states.
@@ -17,7 +17,7 @@ pub struct BoundLinearPk {
 }
 
 // What `bind` makes: the bound kernel, or zeros where it refuses.
-#[derive(Drop)]
+#[derive(Clone, Copy)]
 pub struct Bound {
     pub reply: Reply,
     pub bound: BoundLinearPk,

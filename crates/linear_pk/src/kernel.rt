@@ -13,7 +13,7 @@ use linear_pk_values::Absorption;
 use refusal::{Refusal, Reply};
 
 // States are the depot, if there is one, central, then the peripherals. The rate from state j to state i stands at place STATES·i + j.
-#[derive(Drop)]
+#[derive(Clone, Copy)]
 pub struct LinearPk {
     pub compartments: usize,
     pub depot: bool,
@@ -77,7 +77,7 @@ pub fn check(kernel: LinearPk) -> Reply
 }
 
 // What `new` makes: the kernel, or zeros where it refuses.
-#[derive(Drop)]
+#[derive(Clone, Copy)]
 pub struct Made {
     pub reply: Reply,
     pub kernel: LinearPk,

@@ -1,4 +1,5 @@
 // What a kernel is made of and bound to: the absorption, values that pass, amounts with +0 past them; amounts by volume.
+#![tactic(auto)]
 ghost use Rattle.std.specs.Prelude.{◌≡◌, ◌≤◌, ◌<◌, ◌+◌, length, take};
 ghost use Rattle.limits.specs.Limits.{states, most_volumes};
 ghost use Rattle.linear_pk_mammillary.specs.Rates.{padded, central};
@@ -13,7 +14,7 @@ use limits::{STATES, VOLUMES};
 use refusal::{Refusal, Reply};
 
 // First-order absorption from a depot, or none.
-#[derive(Drop)]
+#[derive(Clone, Copy)]
 pub enum Absorption {
     Absent,
     FirstOrder(f64),

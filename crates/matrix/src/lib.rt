@@ -1,2 +1,3 @@
 // Square matrices in arrays of a fixed width.
+#![tactic(auto)]
 pub mod row;

@@ -1,4 +1,5 @@
 // The acceptance of a closed cycle's candidate, by its own run; what a closed cycle replies, and the writing of its answers.
+#![tactic(auto)]
 ghost use Rattle.std.specs.Prelude.{◌≡◌, ◌++◌, ◌≤◌, length, take, drop};
 ghost use Rattle.limits.specs.Limits.{states};
 ghost use Rattle.binary64.specs.Doubles.{plus_zero};
@@ -17,7 +18,7 @@ use protocol::Window;
 use refusal::{Refusal, Reply};
 
 // What a closed cycle replies.
-#[derive(Drop)]
+#[derive(Clone, Copy)]
 pub enum SteadyReply {
     // At a time.
     Refused { refusal: Refusal, time: f64 },
@@ -40,7 +41,7 @@ pub fn lay(n: usize, values: [f64; STATES], out: &mut [f64])
 }
 
 // A candidate refused at a time, or its residuals and the greatest scaled one.
-#[derive(Drop)]
+#[derive(Clone, Copy)]
 pub struct Acceptance {
     pub reply: Reply,
     pub time: f64,

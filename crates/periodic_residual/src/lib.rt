@@ -1,4 +1,5 @@
 // The residuals of a closed cycle: end minus start, and the greatest scaled one.
+#![tactic(auto)]
 ghost use Rattle.std.specs.Prelude.{◌≡◌, ◌≤◌, take};
 ghost use Rattle.limits.specs.Limits.{states};
 ghost use Rattle.refusal.specs.Numbers.{result_of};
@@ -9,7 +10,7 @@ use limits::STATES;
 use refusal::{Refusal, Reply};
 
 // 35 or 36, or the greatest scaled residual.
-#[derive(Drop)]
+#[derive(Clone, Copy)]
 pub struct Scaled {
     pub reply: Reply,
     pub maximum: f64,

@@ -1,4 +1,5 @@
 // The inner runs of a closed cycle, from amounts at the start to those of the last post row, and the columns of the unit amounts.
+#![tactic(auto)]
 ghost use Rattle.std.specs.Prelude.{◌≡◌, ◌≤◌, length, take};
 ghost use Rattle.limits.specs.Limits.{states, most_events, most_samples, most_boundaries, cycle_rows, cycle_values};
 ghost use Rattle.events.specs.Packed.{packed};
@@ -14,7 +15,7 @@ use protocol::Window;
 use refusal::Reply;
 
 // Stopped by a refusal at a time, or the amounts of the last post row.
-#[derive(Drop)]
+#[derive(Clone, Copy)]
 pub struct CycleEnd {
     pub reply: Reply,
     pub time: f64,
@@ -101,7 +102,7 @@ pub fn last_of(
 }
 
 // Whether a run from a unit amount was stopped by a refusal, and at which time.
-#[derive(Drop)]
+#[derive(Clone, Copy)]
 pub struct ColumnsReply {
     pub reply: Reply,
     pub time: f64,

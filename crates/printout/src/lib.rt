@@ -1,4 +1,5 @@
 // The bytes of a run's printout, into lent cells; its reply, and the printout of a refusal ahead of the run.
+#![tactic(auto)]
 ghost use Rattle.std.specs.Prelude.{◌≡◌, ◌*◌, ◌≤◌, length, eqb};
 ghost use Rattle.limits.specs.Limits.{states, most_rows};
 ghost use Rattle.printout.specs.Printout.{rows_text, run_text};
@@ -60,7 +61,7 @@ pub fn print_run(
 }
 
 // Whether the printout is an answer, and how many bytes it has, 0 where the output is too short; an answer without room is 4.
-#[derive(Drop)]
+#[derive(Clone, Copy)]
 pub struct PrintReply {
     pub reply: Reply,
     pub length: usize,

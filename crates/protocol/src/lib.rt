@@ -1,7 +1,8 @@
 // The types of a run.
+#![tactic(auto)]
 
 // An event of a list. A target is the index of a state.
-#[derive(Drop)]
+#[derive(Clone, Copy)]
 pub enum Event {
     Bolus {
         time: f64,
@@ -25,7 +26,7 @@ pub enum Event {
 }
 
 // The window of a run, its tolerances and its budgets: advances, events, and values of the rows.
-#[derive(Drop)]
+#[derive(Clone, Copy)]
 pub struct Window {
     pub start: f64,
     pub end: f64,

@@ -1,8 +1,10 @@
 // What an entry replies: done, or one of document 01's refusals.
+#![tactic(auto)]
+
 ghost use Rattle.std.specs.Prelude.{◌≡◌};
 ghost use Rattle.refusal.specs.Numbers.{refusal_number, reply_number};
 
-#[derive(Drop)]
+#[derive(Clone, Copy)]
 pub enum Refusal {
     // Parameters outside those that `new` takes, or a kernel with such a count or volume.
     Parameters,
@@ -54,7 +56,7 @@ pub enum Refusal {
     Layout,
 }
 
-#[derive(Drop)]
+#[derive(Clone, Copy)]
 pub enum Reply {
     Done,
     Refused(Refusal),

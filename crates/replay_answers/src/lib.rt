@@ -1,5 +1,6 @@
 // What programs that replay stored answers share: the text of a line, its parts, the counts of what the lines came to; the comparison of a
 // printout with the stored one.
+#![tactic(auto)]
 mod cells;
 mod line;
 mod parts;

@@ -9,7 +9,7 @@ const WORDS: usize = 8193;
 pub const SHEET: usize = 65544;
 
 // What a line says: whether it has its parts, the sheet's bytes, the printout's number, and the place of the printout.
-#[derive(Drop)]
+#[derive(Clone, Copy)]
 pub struct Line {
     pub fits: bool,
     pub bytes: usize,
@@ -18,7 +18,7 @@ pub struct Line {
 }
 
 // How many words a part has; none where one of them is no number, or where they are too many.
-#[derive(Drop)]
+#[derive(Clone, Copy)]
 enum Put {
     Words(usize),
     Malformed,

@@ -8,14 +8,14 @@ const REPLIES: usize = 41;
 const COUNTS: usize = 4 * REPLIES;
 
 // What a line came to.
-#[derive(Drop)]
+#[derive(Clone, Copy)]
 pub enum Outcome {
     Comment,
     Malformed,
     Called { entry: u64, reply: u64, same: bool },
 }
 
-#[derive(Drop)]
+#[derive(Clone, Copy)]
 pub struct Tally {
     pub counts: [u64; COUNTS],
     pub lines: u64,

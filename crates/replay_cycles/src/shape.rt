@@ -20,7 +20,7 @@ const EVENTS: usize = 17;
 pub const FIRST_EVENT: usize = 18;
 
 // Counts of events, samples and stored pieces, each held to the most that a line may have.
-#[derive(Drop)]
+#[derive(Clone, Copy)]
 pub struct Shape {
     pub events: usize,
     pub samples: usize,

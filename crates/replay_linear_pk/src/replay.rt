@@ -52,7 +52,7 @@ fn made(words: &[u64; ROOM]) -> Made {
 }
 
 // What the library answers: the reply's number, and the cells from the front.
-#[derive(Drop)]
+#[derive(Clone, Copy)]
 struct Answer {
     reply: u64,
     count: usize,

@@ -18,7 +18,7 @@ pub const REAL: u64 = 0x4059_2000_0000_0000;
 pub const SIDE: u8 = 99;
 
 // A run's reply. `began` says that no test ahead of the run refused it.
-#[derive(Drop)]
+#[derive(Clone, Copy)]
 pub struct Answer {
     pub report: Report,
     pub began: bool,

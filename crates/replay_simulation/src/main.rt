@@ -1,5 +1,6 @@
 // Replays stored runs against the library. Standard input has a line for each run, in the layout of reference/README.md, with the reference's
 // answer; a line that starts with '#' is a comment. Prints how often each reply was given, and how many answers differ.
+#![tactic(auto)]
 mod compare;
 mod replay;
 mod shape;

@@ -22,7 +22,7 @@ const EVENTS: usize = 22;
 pub const FIRST_EVENT: usize = 23;
 
 // Counts of states, events, samples and stored rows, each held to the most that a line may have.
-#[derive(Drop)]
+#[derive(Clone, Copy)]
 pub struct Shape {
     pub states: usize,
     pub events: usize,

@@ -1,4 +1,5 @@
 // Reads a sheet on standard input to its end, starts from the amounts that solve its cycle, runs one cycle more and writes the printout of it.
+#![tactic(auto)]
 ghost use Rattle.std.specs.Prelude.{◌+◌, ◌≡◌, length};
 ghost use Rattle.limits.specs.Limits.{sheet_bytes};
 ghost use Rattle.rig_cycle_sheet.specs.CycleSheet.{most_cycle_bytes};

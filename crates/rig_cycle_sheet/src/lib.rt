@@ -1,4 +1,5 @@
 // One more cycle from the amounts of a sheet's closed one: its bytes in, the bytes of its printout out.
+#![tactic(auto)]
 ghost use Rattle.std.specs.Prelude.{◌≡◌, ◌/◌, ◌≤◌, length};
 ghost use Rattle.limits.specs.Limits.{cycle_rows, cycle_values};
 ghost use Rattle.refusal.specs.Numbers.{reply_number};
@@ -29,7 +30,7 @@ use rig_steady_cycle::solve_bodies;
 pub const CYCLE_BYTES: usize = 68 * STATES + 11;
 
 // Whether a cycle is solved, or its refusal, and the time of that.
-#[derive(Drop)]
+#[derive(Clone, Copy)]
 struct Refused {
     reply: Reply,
     time: f64,

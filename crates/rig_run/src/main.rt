@@ -1,4 +1,5 @@
 // Reads a sheet on standard input to its end and writes its printout.
+#![tactic(auto)]
 ghost use Rattle.std.specs.Prelude.{◌+◌, ◌≡◌, length};
 ghost use Rattle.limits.specs.Limits.{sheet_bytes};
 ghost use Rattle.rig_run_printout.specs.Rig.{most_bytes};

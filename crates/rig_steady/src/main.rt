@@ -1,4 +1,5 @@
 // Reads a sheet on standard input to its end and writes the printout of its closed cycle.
+#![tactic(auto)]
 ghost use Rattle.std.specs.Prelude.{◌+◌, ◌≡◌, length};
 ghost use Rattle.limits.specs.Limits.{sheet_bytes};
 ghost use Rattle.rig_steady_sheet.specs.SteadySheet.{most_steady_bytes};

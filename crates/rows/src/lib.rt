@@ -1,4 +1,5 @@
 // The blocks of a run: a row written into lent slices, the kernel's advance and the arrival at a boundary; zeros over the reckoned rows.
+#![tactic(auto)]
 ghost use Rattle.std.specs.Prelude.{◌≡◌, [], ◌∷◌, ◌++◌, ℕ, ◌+◌, ◌*◌, ◌≤◌, ◌<◌, length, take, drop};
 ghost use Rattle.limits.specs.Limits.{states};
 ghost use Rattle.protocol.specs.Schedule.{arrive as arrives};
@@ -14,7 +15,7 @@ use refusal::{Refusal, Reply};
 
 // Where a run has come to: whether it was refused and at which time; the amounts, what is left of the budget of advances, the advances
 // made, and the rows written.
-#[derive(Drop)]
+#[derive(Clone, Copy)]
 pub struct Progress {
     pub reply: Reply,
     pub time: f64,
@@ -108,7 +109,7 @@ impl Progress {
 }
 
 // What the kernel's advance gives: amounts, or a refusal.
-#[derive(Drop)]
+#[derive(Clone, Copy)]
 pub struct Move {
     pub reply: Reply,
     pub amounts: [f64; STATES],

@@ -1,4 +1,5 @@
 // The reader of a sheet and of its kernel, and the tolerance of its closed cycle.
+#![tactic(auto)]
 ghost use Rattle.std.specs.Prelude.{◌≡◌, true, ◌+◌, ◌-◌, ◌*◌, ◌≤◌, length};
 ghost use Rattle.refusal.specs.Numbers.{result_of};
 ghost use Rattle.linear_pk.specs.LinearPk.{no_kernel};
@@ -58,7 +59,7 @@ pub fn kernel_of(part: &[u8]) -> Made
 }
 
 // Done, or 40, 5, 1 or 2; with the kernel of the model, and the places of the bodies.
-#[derive(Drop)]
+#[derive(Clone, Copy)]
 pub struct SheetKernel {
     pub reply: Reply,
     pub kernel: LinearPk,

@@ -1,4 +1,5 @@
 // Little-endian words of a file, or of a part of it, and the head of a sheet: where its pairs put the bodies.
+#![tactic(auto)]
 ghost use Rattle.std.specs.Prelude.{◌≡◌, ◌+◌, ◌*◌, ◌≤◌, ◌<◌, ◌/◌, length, get_or, take, drop, ◌&&◌};
 ghost use Rattle.sheet_words.specs.Words.{little_endian, words_of, word as word_of};
 ghost use Rattle.sheet_words.specs.Head.{words_fit, placed};
@@ -39,7 +40,7 @@ pub fn word(bytes: &[u8], i: usize) -> u64
 }
 
 // The first word of each body, and the place behind the last.
-#[derive(Drop)]
+#[derive(Clone, Copy)]
 pub struct Places {
     pub model: usize,
     pub window: usize,

@@ -1,11 +1,12 @@
 // What a run replies, and its reply as numbers.
+#![tactic(auto)]
 ghost use Rattle.std.specs.Prelude.{◌≡◌};
 ghost use Rattle.simulation_report.specs.Replies.{run_reply, reported};
 
 use refusal::{Refusal, Reply};
 
 // What a run replies.
-#[derive(Drop)]
+#[derive(Clone, Copy)]
 pub enum RunReply {
     // Refused ahead of the run.
     Refused(Refusal),
@@ -23,7 +24,7 @@ pub enum RunReply {
 }
 
 // A reply as numbers; 0 is the number of a run that reached its end.
-#[derive(Drop)]
+#[derive(Clone, Copy)]
 pub struct Report {
     pub number: u64,
     pub time: f64,

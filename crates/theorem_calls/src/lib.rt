@@ -1,5 +1,6 @@
 // Demand 3 stated of the code: what a call of the library's entries, or of the entry that `rig-steady` calls, ensures is the claim. That
 // the times of a call are doubles is given by their type.
+#![tactic(auto)]
 ghost use Rattle.std.specs.Prelude.{◌≡◌};
 ghost use Rattle.simulation_report.specs.Replies.{run_reply};
 ghost use Rattle.theorem_runs_and_cycles.specs.Simulate.{SameRows};
@@ -45,7 +46,7 @@ fn simulate(
 }
 
 // The tolerances and the budgets of a window.
-#[derive(Drop)]
+#[derive(Clone, Copy)]
 struct Settings {
     rtol: f64,
     atol: f64,
@@ -68,7 +69,7 @@ fn window_of(start: f64, end: f64, settings: Settings) -> Window
     }
 }
 
-#[derive(Drop)]
+#[derive(Clone, Copy)]
 struct Replies {
     first: RunReply,
     second: RunReply,

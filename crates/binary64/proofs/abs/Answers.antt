@@ -11,25 +11,23 @@ use Rattle.binary64.proofs.Tests.{is_nan_lem, is_real}
 use Rattle.binary64.proofs.Units.{Good}
 use Rattle.binary64.proofs.Patterns.{bits_no_nan}
 use Rattle.binary64.proofs.Magnitudes.{magnitude64, magnitude_good}
-use Rattle.binary64.proofs.abs.Statement.{statement}
-use Rattle.binary64.proofs.abs.Tie as tie
-use Rattle.binary64.proofs.abs.Reads as reads
-use Rattle.binary64.proofs.abs.Lts as lts
+use Rattle.binary64.proofs.abs.Goals as goal
 
-good : (c : lts.Else1 reads.Pre reads.Post) → Good binary64 c.before.args.x
-good c = (search rules, is_real c.before.args.x c.if1.false)
+good : (c : goal.Else-x) → Good binary64 c.args.x
+good c = (search rules, is_real c.args.x c.if-x.false)
 
-float-from-bits-result : tie.Need-float-from-bits-result
-float-from-bits-result c =
-    let x = c.before.args.x in
+pub float_from_bits-result : goal.float_from_bits-result
+float_from_bits-result c = let x = c.args.x in
     subst (λ (n : ℕ). T (not (nan_bits binary64 n))) (sym (magnitude64 x (good c))) (bits_no_nan binary64 (magnitude x) (magnitude_good binary64 x (good c)))
 
-returns-2 : tie.Need-returns-2
-returns-2 c =
-    let x = c.before.args.x in
+pub returns : goal.returns
+returns c = let x = c.args.x in
     ap (of_bits binary64) (magnitude64 x (good c)) ∙ of_bits-to_bits binary64 (magnitude x) (magnitude_good binary64 x (good c)).0
 
-pub abs-spec : {M : Type 1} → statement M
+pub returns-then-x : goal.returns-then-x
 unfolding magnitude
-abs-spec = tie.close (tie.spec
-    (λ c. rw (is_nan_lem c.before.args.x c.if1.true)) (λ c. (good c).1) float-from-bits-result returns-2)
+returns-then-x c = rw (is_nan_lem c.args.x c.if-x.true)
+
+pub float_to_bits-result : goal.float_to_bits-result
+unfolding magnitude
+float_to_bits-result c = (good c).1
