@@ -1,5 +1,6 @@
 // The doubles of bit patterns, and the floor of an f64, worked out from its bits.
 #![tactic(auto)]
+
 ghost use Rattle.std.specs.Prelude.{◌≡◌};
 ghost use Rattle.std.specs.Float.{binary64};
 ghost use Rattle.std.specs.Float.Ieee.{nan_bits, of_bits};

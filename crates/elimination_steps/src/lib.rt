@@ -1,5 +1,6 @@
 // One column of a system reduced: its rows exchanged, its table made anew, its right side with it; back substitution.
 #![tactic(auto)]
+
 use limits::STATES;
 
 pub mod right;

@@ -1,6 +1,7 @@
 // The norm of a block, how often it is halved, and whether a block is finite.
 // Matrices are arrays of arrays, of which the leading m by m part is in use.
 #![tactic(auto)]
+
 ghost use Rattle.std.specs.Prelude.{◌≡◌, ◌≤◌, ◌<◌};
 ghost use Rattle.std.specs.Float.Ieee.Scale.{finite};
 ghost use Rattle.limits.specs.Limits.{block};

@@ -1,6 +1,7 @@
 // The Taylor series of the exponential of a block; a block halved, and squared, a number of times.
 // Matrices are arrays of arrays, of which the leading m by m part is in use.
 #![tactic(auto)]
+
 ghost use Rattle.std.specs.Prelude.{◌≡◌, ◌≤◌, [], get_or, length};
 ghost use Rattle.limits.specs.Limits.{block};
 ghost use Rattle.matrix.specs.Arrays.{updated, row_times, row_quotient, row_sum_of, lead, Holds, row_half};

@@ -13,7 +13,7 @@ use Rattle.binary64.specs.Doubles.{plus_zero, one, half}
 use Rattle.matrix.specs.Matrix.{Matrix, at, table, sum_to, dot, product, plus, halved}
 use Rattle.matrix.specs.Exponential.{halved_times, series, squarings}
 use Rattle.matrix.proofs.Rows.{table_at, table_cong}
-use Rattle.exponential_upper.specs.Upper.{Upper, block_at, block_of, unit_of, right_term, right_sum, sumFrom, start_of, squared}
+use Rattle.exponential_upper.specs.Upper.{Upper, block_at, block_of, unit_of, right_term, right_sum, sum_from, start_of, squared}
 use Rattle.exponential_upper.proofs.Rounding.{is_zero}
 use Rattle.exponential_upper.proofs.Zeros.{is_minus_zero, zero-times}
 
@@ -155,7 +155,7 @@ module _ (n : ℕ) (a : Matrix) (u : Float) (i j : ℕ) (I : i < n) (J : j < n) 
 -- ---- a squaring of upper rows
 -- a sum of products with row i of the left half
 abbrev pub row_product : ℕ → Upper → ℕ → (ℕ → Float) → Float
-row_product n q i f = sumFrom (start_of n q.right i) (λ k. mul binary64 (at q.left i k) (f k)) n
+row_product n q i f = sum_from (start_of n q.right i) (λ k. mul binary64 (at q.left i k) (f k)) n
 
 module _ (n : ℕ) (q : Upper) (i j : ℕ) (I : i < n) (J : j < n) where
   pub squared-left : at (squared n q).left i j ≡ row_product n q i (λ k. at q.left k j)

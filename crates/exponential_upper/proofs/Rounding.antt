@@ -76,7 +76,7 @@ fin_zero s (suc m) e = refl
 odd_zero : (d : ℕ) (s : Bool) (q k l : ℕ) → is_zero (odd d s q k l) ≡ is_zero (odd d false q k l)
 unfolding odd
 odd_zero d s zero k l = refl
-odd_zero d s (suc q) k l = fin_zero s (suc q / 2 ^ count_trailing_zeros d (suc q)) (pos 0)
+odd_zero d s (suc q) k l = fin_zero s (suc q / 2 ^ count_trailing_zeros d (suc q)) _
 
 units_zero : (f : Format) (s : Bool) (q k : ℕ) → is_zero (units f s q k) ≡ is_zero (units f false q k)
 unfolding units

@@ -22,7 +22,7 @@ use Rattle.exponential_upper.proofs.Zeros.{is_minus_zero, unsigned, nonzero, zer
 use Rattle.exponential_upper.proofs.Zeros.{zero-times, times_zero, mul_alike, zero-over, div_alike}
 use Rattle.exponential_upper.proofs.Signs.{add_minus, add_same, add-zero-same}
 use Rattle.exponential_upper.proofs.Finite.{finite_add, finite_mul, finite_div}
-use Rattle.exponential_upper.proofs.Sums.{sum_from, sum_split, minus_fits, sum_fits, sum_finite, sum_alike, from_zeros, from_one, sum_zeros}
+use Rattle.exponential_upper.proofs.Sums.{sum_from_lem, sum_split, minus_fits, sum_fits, sum_finite, sum_alike, from_zeros, from_one, sum_zeros}
 use Rattle.exponential_upper.proofs.Entries.{by_halves, unit_off, unit_fits, unit_finite, unit_not_minus, Block}
 use Rattle.exponential_upper.proofs.Entries.{term_first, term-next, sum_first, sum-next, right_entry, right_first, right-next}
 use Rattle.exponential_upper.proofs.Entries.{FiniteRows, FiniteHalves, Agree, LowerUnit}
@@ -127,7 +127,7 @@ module _ (n : ℕ) (A B : Matrix) (u : Float) (block : Block n A B u) where
         let g = summand k i (n + j) in
         ap unsigned (term-next (n + n) A i (n + j) (omega arith) (omega arith) k)
         ∙ div_alike binary64 (sum_to g (n + n)) (mul binary64 (left_term k i j) u) (of_int binary64 (pos (suc k))) (divisor k K)
-        (upper_summands (n + j) (omega arith) ∙ ap unsigned (sum_from g n)
+        (upper_summands (n + j) (omega arith) ∙ ap unsigned (sum_from_lem g n)
         ∙ from_one minus_zero minus_fits g (summand_fits k i (n + j)) j n J
         (λ l L d. times_zero binary64 (block_term k i l) (at A l (n + j)) (F i l I (omega arith)) (block.off l j L J d))
         ∙ add-zero-left binary64 minus_zero (g j) tt (summand_fits k i (n + j) j)

@@ -13,7 +13,7 @@ use Rattle.binary64.specs.Doubles.{plus_zero, one}
 use Rattle.matrix.specs.Matrix.{Matrix, at, sum_to}
 use Rattle.matrix.specs.Exponential.{squarings}
 use Rattle.matrix.proofs.Rows.{sum_cong}
-use Rattle.exponential_upper.specs.Upper.{Upper, sumFrom, start_of, squared, squared_times}
+use Rattle.exponential_upper.specs.Upper.{Upper, sum_from, start_of, squared, squared_times}
 use Rattle.exponential_upper.proofs.Rounding.{is_zero}
 use Rattle.exponential_upper.proofs.Zeros.{is_minus_zero, same, zero_unsigned, zero-times, times_zero, times-one, minus_times, positive-times}
 use Rattle.exponential_upper.proofs.Signs.{zero-add-same}
@@ -66,14 +66,14 @@ module _ (n : ℕ) (p : Matrix) (P : (i j : ℕ) → i < n + n → j < n + n →
   lower_off : (l j : ℕ) → l < n → j < n + n → (n + l ≡ j → ⊥) → at p (n + l) j ≡ plus_zero
   lower_off l j L J d = lower l j L J ∙ unit_off (n + l) j d
 
-  square_left : (i j : ℕ) → i < n → j < n → sum_to (summand i j) (n + n) ≡ sumFrom (sum_to (zero_summand i) n) (summand i j) n
+  square_left : (i j : ℕ) → i < n → j < n → sum_to (summand i j) (n + n) ≡ sum_from (sum_to (zero_summand i) n) (summand i j) n
   square_left i j I J =
       sum_split (summand i j) n n
       ∙ from_cong n refl (λ k K. ap (mul binary64 (at p i (n + k))) (lower_off k j K (omega arith) (λ e. omega arith)))
       ∙ zeros_first (summand i j) (zero_summand i) (summand_fits i j) (zero_fits i) n (zero_is i I)
 
   square_right : (i j : ℕ) → i < n → j < n
-      → sum_to (summand i (n + j)) (n + n) ≡ add binary64 (sumFrom (sum_to (zero_summand i) n) (summand i (n + j)) n) (at p i (n + j))
+      → sum_to (summand i (n + j)) (n + n) ≡ add binary64 (sum_from (sum_to (zero_summand i) n) (summand i (n + j)) n) (at p i (n + j))
   square_right i j I J =
       let g = summand i (n + j) in
       let single : g (n + j) ≡ at p i (n + j) = ap (mul binary64 (at p i (n + j))) (lower_on j J)
@@ -83,7 +83,7 @@ module _ (n : ℕ) (p : Matrix) (P : (i j : ℕ) → i < n + n → j < n + n →
       (λ k. g (n + k)) (λ k. summand_fits i (n + j) (n + k)) j J
       (λ k K d. ap (mul binary64 (at p i (n + k))) (lower_off k (n + j) K (omega arith) (λ e. d (omega arith))))
       (λ t. minus_times binary64 (at p i (n + j)) (rw single at t))
-      ∙ ap (add binary64 (sumFrom (sum_to (zero_summand i) n) g n)) single
+      ∙ ap (add binary64 (sum_from (sum_to (zero_summand i) n) g n)) single
 
   one-times : (b : Bool) → mul binary64 one (unit b) ≡ unit b
   one-times true = times-one binary64 one (unit_fits true)
@@ -112,7 +112,7 @@ module _ (n : ℕ) (p : Matrix) (P : (i j : ℕ) → i < n + n → j < n + n →
         ∙ sym (start_is n q.right i I (λ k K. rw (w.right i k I K) at (F i (n + k) I (omega arith))))
 
     row_same : (f g : ℕ → Float) → ((k : ℕ) → k < n → f k ≡ g k)
-        → sumFrom (sum_to (zero_summand i) n) (λ k. mul binary64 (at p i k) (f k)) n ≡ row_product n q i g
+        → sum_from (sum_to (zero_summand i) n) (λ k. mul binary64 (at p i k) (f k)) n ≡ row_product n q i g
     row_same f g e = from_cong n start (λ k K. ap₂ (mul binary64) (w.left i k I K) (e k K))
 
     halves_left : sum_to (summand i j) (n + n) ≡ at (squared n q).left i j
@@ -134,7 +134,7 @@ rows_before n p c h i j I J =
 halves_before : (n : ℕ) (q : Upper) → FiniteHalves n (squared n q) → FiniteHalves n q
 halves_before n q h i j I J =
     let g : ℕ → Float = λ k. mul binary64 (at q.left i k) (at q.right k j) in
-    let w = finite_add binary64 (sumFrom (start_of n q.right i) g n) (at q.right i j) (rw (squared-right n q i j I J) at (h i j I J).1) in
+    let w = finite_add binary64 (sum_from (start_of n q.right i) g n) (at q.right i j) (rw (squared-right n q i j I J) at (h i j I J).1) in
     ((finite_mul binary64 (at q.left i j) (at q.right j j) (from_finite (start_of n q.right i) g n j w.0 J)).0, w.1)
 
 -- ---- c squarings

@@ -9,7 +9,6 @@ use Rattle.binary64.specs.Doubles.{plus_zero, one, half, larger}
 use Rattle.matrix.specs.Matrix.{Matrix, at, table, sum_to, plus}
 use Rattle.matrix.specs.Exponential.{Scheme, row_sum, halving_count, halved_times, series, all_finite, Exponential, exponential}
 use Rattle.refusal.specs.Result.{Result, done, and_then, unless}
-unfoldable pub use Rattle.matrix.specs.Arrays.{sumFrom}
 
 -- ---- the block, and the upper rows of a matrix
 -- the cells of [a 1; 0 0]
@@ -53,16 +52,21 @@ abbrev pub upper_series : ℕ → Matrix → Float → ℕ → Upper
 upper_series n a u k = record { left = (series n a k).sum; right = right_sum n a u k }
 
 -- ---- squarings
+-- f 0 + f 1 + .. + f (m - 1), from z
+unfoldable pub sum_from : Float → (ℕ → Float) → ℕ → Float
+sum_from z f zero = z
+sum_from z f (suc k) = add binary64 (sum_from z f k) (f k)
+
 -- what the products with the lower left zeros come to: -0 where each entry of the right half has its sign set
 unfoldable pub start_of : ℕ → Matrix → ℕ → Float
 unfolding sum_to
 start_of n r i = cond (lt plus_zero (at r i i)) plus_zero (sum_to (λ k. mul binary64 (at r i k) plus_zero) n)
 
 unfoldable pub squared : ℕ → Upper → Upper
-unfolding start_of sumFrom
+unfolding start_of sum_from
 squared n p = record {
-  left = table n (λ i j. sumFrom (start_of n p.right i) (λ k. mul binary64 (at p.left i k) (at p.left k j)) n);
-  right = table n (λ i j. add binary64 (sumFrom (start_of n p.right i) (λ k. mul binary64 (at p.left i k) (at p.right k j)) n) (at p.right i j));
+  left = table n (λ i j. sum_from (start_of n p.right i) (λ k. mul binary64 (at p.left i k) (at p.left k j)) n);
+  right = table n (λ i j. add binary64 (sum_from (start_of n p.right i) (λ k. mul binary64 (at p.left i k) (at p.right k j)) n) (at p.right i j));
 }
 
 unfoldable pub squared_times : ℕ → ℕ → Upper → Upper

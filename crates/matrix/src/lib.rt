@@ -1,3 +1,4 @@
 // Square matrices in arrays of a fixed width.
 #![tactic(auto)]
+
 pub mod row;

@@ -1,5 +1,6 @@
 // The residuals of a closed cycle: end minus start, and the greatest scaled one.
 #![tactic(auto)]
+
 ghost use Rattle.std.specs.Prelude.{◌≡◌, ◌≤◌, take};
 ghost use Rattle.limits.specs.Limits.{states};
 ghost use Rattle.refusal.specs.Numbers.{result_of};

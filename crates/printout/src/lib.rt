@@ -1,5 +1,6 @@
 // The bytes of a run's printout, into lent cells; its reply, and the printout of a refusal ahead of the run.
 #![tactic(auto)]
+
 ghost use Rattle.std.specs.Prelude.{◌≡◌, ◌*◌, ◌≤◌, length, eqb};
 ghost use Rattle.limits.specs.Limits.{states, most_rows};
 ghost use Rattle.printout.specs.Printout.{rows_text, run_text};

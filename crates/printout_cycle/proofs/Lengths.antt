@@ -1,6 +1,6 @@
 -- Lines of states, one by one, and how long they are.
 use mathlib.Core.Path.{◌≡◌, refl, sym, ap, ◌∙◌}
-use mathlib.Core.List.{List, [], ◌∷◌, ◌++◌, append_nil, append_assoc}
+use mathlib.Core.List.{List, [], ◌∷◌, ◌++◌, append-nil, append_assoc}
 use Prim.Native.Nat.{ℕ, zero, suc, ◌+◌, ◌*◌, ◌≤◌, ◌<◌}
 use native.Mathlib.Nat.{le_of_suc-le-suc}
 use native.Mathlib.Numerals.{add-one}
@@ -40,7 +40,7 @@ module _ (tol : SteadyStateTolerance) where
   unfolding cycle_lines
   next_line k [] ys h l = absurd (omega arith)
   next_line k (x ∷ xs) [] h l = absurd (omega arith)
-  next_line zero (x ∷ xs) (y ∷ ys) h l = sym (append_nil (cycle_line tol x y))
+  next_line zero (x ∷ xs) (y ∷ ys) h l = sym (append-nil (cycle_line tol x y))
   next_line (suc k) (x ∷ xs) (y ∷ ys) h l =
       append_assoc (cycle_line tol x y) (cycle_lines tol (take k xs) (take k ys)) (cycle_line tol (get_or xs k nan) (get_or ys k nan))
       ∙ ap (λ (t : List ℕ). cycle_line tol x y ++ t) (next_line k xs ys (le_of_suc-le-suc h) (le_of_suc-le-suc l))

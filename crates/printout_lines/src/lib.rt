@@ -1,5 +1,6 @@
 // The first line, the last line and the refusal of a run's printout, and how many bytes it has.
 #![tactic(auto)]
+
 ghost use Rattle.std.specs.Prelude.{◌+◌, ◌≤◌, length, ◌≡◌};
 ghost use Rattle.limits.specs.Limits.{states, most_rows};
 ghost use Rattle.printout_numbers.specs.Written.{Wrote};

@@ -1,5 +1,6 @@
 // Numbers and short texts as bytes.
 #![tactic(auto)]
+
 ghost use Rattle.std.specs.Prelude.{◌≡◌, ◌+◌, ◌≤◌, ◌<◌, length};
 ghost use Rattle.printout_numbers.specs.Digits.{glyph, digits, places as places_of, decimal, bits_of, double_text};
 ghost use Rattle.printout_numbers.specs.Written.{Wrote};

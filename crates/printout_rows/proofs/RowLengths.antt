@@ -1,7 +1,7 @@
 -- How long a row is.
 use mathlib.Core.Path.{◌≡◌, refl, sym, ap, ◌∙◌}
 use mathlib.Core.Bool.{Bool, true, false, cond}
-use mathlib.Core.List.{List, [], ◌∷◌, ◌++◌, append_nil, append_assoc}
+use mathlib.Core.List.{List, [], ◌∷◌, ◌++◌, append-nil, append_assoc}
 use Prim.Native.Nat.{ℕ, suc, ◌+◌, ◌*◌, ◌<◌}
 use native.Mathlib.Numerals.{add-one}
 use native.Mathlib.Omega.{arith}
@@ -42,7 +42,7 @@ amounts_more xs i l =
     sym
     (ap (λ (k : ℕ). amounts_text (take k xs)) (add-one i) ∙ ap amounts_text (take-suc xs i nan l)
     ∙ amounts-append (take i xs) (get_or xs i nan ∷ [])
-    ∙ ap (λ (t : List ℕ). amounts_text (take i xs) ++ t) (append_nil (32 ∷ double_text (get_or xs i nan))))
+    ∙ ap (λ (t : List ℕ). amounts_text (take i xs) ++ t) (append-nil (32 ∷ double_text (get_or xs i nan))))
 
 pub row_length_lem : (time : Float) (side : ℕ) (xs : List Float) → length (row_line time side xs) ≡ row_length (length xs) side
 unfolding row_line

@@ -1,5 +1,6 @@
 // The rows of a printout as lines.
 #![tactic(auto)]
+
 ghost use Rattle.std.specs.Prelude.{◌∷◌, ◌+◌, ◌*◌, ◌≤◌, length};
 ghost use Rattle.printout_numbers.specs.Digits.{double_text};
 ghost use Rattle.printout_numbers.specs.Written.{Wrote};

@@ -1,7 +1,7 @@
 -- Lines of states, one by one, and how long the texts are.
 use mathlib.Core.Path.{◌≡◌, refl, sym, ap, ◌∙◌}
 use mathlib.Core.Bool.{Bool, true, false, cond}
-use mathlib.Core.List.{List, [], ◌∷◌, ◌++◌, append_nil, append_assoc}
+use mathlib.Core.List.{List, [], ◌∷◌, ◌++◌, append-nil, append_assoc}
 use Prim.Native.Nat.{ℕ, zero, suc, ◌+◌, ◌*◌, ◌≤◌, ◌<◌}
 use native.Mathlib.Nat.{le_of_suc-le-suc}
 use native.Mathlib.Numerals.{add-one}
@@ -45,7 +45,7 @@ next_line : (k : ℕ) (xs ys : List Float) → k < length xs → k < length ys
 unfolding state_lines
 next_line k [] ys h l = absurd (omega arith)
 next_line k (a ∷ xs) [] h l = absurd (omega arith)
-next_line zero (a ∷ xs) (r ∷ ys) h l = sym (append_nil (state_line a r))
+next_line zero (a ∷ xs) (r ∷ ys) h l = sym (append-nil (state_line a r))
 next_line (suc k) (a ∷ xs) (r ∷ ys) h l =
     append_assoc (state_line a r) (state_lines (take k xs) (take k ys)) (state_line (get_or xs k nan) (get_or ys k nan))
     ∙ ap (λ (t : List ℕ). state_line a r ++ t) (next_line k xs ys (le_of_suc-le-suc h) (le_of_suc-le-suc l))

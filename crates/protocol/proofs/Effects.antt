@@ -3,7 +3,7 @@
 use mathlib.Core.Path.{◌≡◌, refl, sym, ap, ap₂, ◌∙◌, subst}
 use Prim.Native.Nat.{ℕ}
 use mathlib.Core.Bool.{Bool, true, false, cond}
-use mathlib.Core.List.{List, [], ◌∷◌, ◌++◌, append_assoc, append_nil}
+use mathlib.Core.List.{List, [], ◌∷◌, ◌++◌, append_assoc, append-nil}
 use lib.Dec.{ltb}
 use lib.ListN.{length}
 use lib.Ieee.{Float, binary64, sub}
@@ -85,15 +85,15 @@ module _ (advance : Propagator) where
     quiet : (s : State) (x : Step) → rows_by s.amounts x ≡ [] → advances_by x ≡ [] → Left s (x ∷ []) (with_amounts (leaves s.amounts x) s)
     quiet s x p q = record {
       amounts = refl;
-      rows = sym (ap (λ (r : List Row). s.rows ++ (r ++ [])) p ∙ append_nil s.rows);
-      advances = sym (ap (λ (m : List Advance). s.advances ++ (m ++ [])) q ∙ append_nil s.advances);
+      rows = sym (ap (λ (r : List Row). s.rows ++ (r ++ [])) p ∙ append-nil s.rows);
+      advances = sym (ap (λ (m : List Advance). s.advances ++ (m ++ [])) q ∙ append-nil s.advances);
     }
 
     pub step_left : (x : Step) (s z : State) → execute advance budget s x ≡ go z → Left s (x ∷ []) z
     unfolding execute
     step_left (check t) s z e = subst (Left s (check t ∷ [])) (passed (all nonnegative s.amounts) 31 t s s z e) (quiet s (check t) refl refl)
-    step_left (pre t) s z e = subst (Left s (pre t ∷ [])) (go_same e) (record { amounts = refl; rows = refl; advances = sym (append_nil s.advances) })
-    step_left (post t) s z e = subst (Left s (post t ∷ [])) (go_same e) (record { amounts = refl; rows = refl; advances = sym (append_nil s.advances) })
+    step_left (pre t) s z e = subst (Left s (pre t ∷ [])) (go_same e) (record { amounts = refl; rows = refl; advances = sym (append-nil s.advances) })
+    step_left (post t) s z e = subst (Left s (post t ∷ [])) (go_same e) (record { amounts = refl; rows = refl; advances = sym (append-nil s.advances) })
     step_left (apply t v) s z e =
         let y : State = with_amounts (dosed_amounts v s.amounts) s in
         subst (Left s (apply t v ∷ [])) (passed (all nonnegative y.amounts) 31 t y y z e) (quiet s (apply t v) refl refl)
@@ -103,24 +103,24 @@ module _ (advance : Propagator) where
         (record { amounts = refl; rows = refl; advances = refl })
     step_left (arrive t r u) s z e =
         subst (Left s (arrive t r u ∷ [])) (propagated t r u (λ (a : List Float). with_amounts a) s z e)
-        (record { amounts = refl; rows = sym (append_nil s.rows); advances = refl })
+        (record { amounts = refl; rows = sym (append-nil s.rows); advances = refl })
 
     left-then : (x : Step) (xs : List Step) (s y z : State) → Left s (x ∷ []) y → Left y xs z → Left s (x ∷ xs) z
     left-then x xs s y z p q = record {
       amounts = q.amounts ∙ ap (λ (a : List Float). leaves_all a xs) p.amounts;
       rows =
           q.rows ∙ ap₂ (λ (r : List Row) (a : List Float). r ++ rows_all a xs) (p.rows
-          ∙ ap (◌++◌ s.rows) (append_nil (rows_by s.amounts x))) p.amounts ∙ append_assoc s.rows (rows_by s.amounts x) (rows_all
+          ∙ ap (◌++◌ s.rows) (append-nil (rows_by s.amounts x))) p.amounts ∙ append_assoc s.rows (rows_by s.amounts x) (rows_all
           (leaves s.amounts x) xs);
       advances =
           q.advances ∙ ap (λ (m : List Advance). m ++ flat_map advances_by xs) (p.advances
-          ∙ ap (◌++◌ s.advances) (append_nil (advances_by x))) ∙ append_assoc s.advances (advances_by x) (flat_map advances_by xs);
+          ∙ ap (◌++◌ s.advances) (append-nil (advances_by x))) ∙ append_assoc s.advances (advances_by x) (flat_map advances_by xs);
     }
 
     -- a run that goes on to the end
     pub run-left : (xs : List Step) (s z : State) → run advance budget s xs ≡ go z → Left s xs z
     unfolding run
-    run-left [] s z e = subst (Left s []) (go_same e) (record { amounts = refl; rows = sym (append_nil s.rows); advances = sym (append_nil s.advances) })
+    run-left [] s z e = subst (Left s []) (go_same e) (record { amounts = refl; rows = sym (append-nil s.rows); advances = sym (append-nil s.advances) })
     run-left (x ∷ xs) s z e = on (execute advance budget s x) refl e (λ (y : State). run-left xs y z)
       where
         on : (o : Outcome) → execute advance budget s x ≡ o → and_then o (λ (y : State). run advance budget y xs) ≡ go z
@@ -149,12 +149,12 @@ module _ (advance : Propagator) where
 
     pub stop-left : (x : Step) (s z : State) (c : ℕ) (t : Float) → execute advance budget s x ≡ stop c t z → Halted s x z
     unfolding execute
-    stop-left (check t) s z c u e = subst (Halted s (check t)) (halted (all nonnegative s.amounts) 31 c t u s s z e) (refl, sym (append_nil s.advances))
+    stop-left (check t) s z c u e = subst (Halted s (check t)) (halted (all nonnegative s.amounts) 31 c t u s s z e) (refl, sym (append-nil s.advances))
     stop-left (pre t) s z c u e = absurd (go-stop e)
     stop-left (post t) s z c u e = absurd (go-stop e)
     stop-left (apply t v) s z c u e =
         let y : State = with_amounts (dosed_amounts v s.amounts) s in
-        subst (Halted s (apply t v)) (halted (all nonnegative y.amounts) 31 c t u y y z e) (refl, sym (append_nil s.advances))
-    stop-left (rates r) s z c u e = subst (Halted s (rates r)) (halted (all finite r) 32 c plus_zero u s s z e) (refl, sym (append_nil s.advances))
+        subst (Halted s (apply t v)) (halted (all nonnegative y.amounts) 31 c t u y y z e) (refl, sym (append-nil s.advances))
+    stop-left (rates r) s z c u e = subst (Halted s (rates r)) (halted (all finite r) 32 c plus_zero u s s z e) (refl, sym (append-nil s.advances))
     stop-left (reading t r v) s z c u e = subst (Halted s (reading t r v)) (refusing t r v (λ (a : List Float). with_row v Reading a) s z c u e) (refl, refl)
     stop-left (arrive t r v) s z c u e = subst (Halted s (arrive t r v)) (refusing t r v (λ (a : List Float). with_amounts a) s z c u e) (refl, refl)

@@ -5,7 +5,7 @@ use mathlib.Core.Path.{◌≡◌, refl, sym, ap, ap₂, ◌∙◌, subst}
 use Prim.Native.Nat.{ℕ, ◌-◌}
 use native.Mathlib.Omega.{arith}
 use mathlib.Core.Bool.{Bool, true, false, cond}
-use mathlib.Core.List.{List, [], ◌∷◌, ◌++◌, append_assoc, append_nil}
+use mathlib.Core.List.{List, [], ◌∷◌, ◌++◌, append_assoc, append-nil}
 use lib.Dec.{T, ltb}
 use lib.ListN.{length, length-append}
 use lib.Ieee.{Float, binary64, sub}
@@ -96,8 +96,8 @@ run-parts advance budget xs ys a = run-append advance budget xs ys (begin a) ∙
   where
     whole : (z : State) → behind z.rows z.advances (begin z.amounts) ≡ z
     whole z =
-        ap₂ (λ (r : List Row) (m : List Advance). record { amounts = z.amounts; rows = r; advances = m }) (append_nil z.rows)
-        (append_nil z.advances)
+        ap₂ (λ (r : List Row) (m : List Advance). record { amounts = z.amounts; rows = r; advances = m }) (append-nil z.rows)
+        (append-nil z.advances)
 
     next : (z : State) → run advance budget z ys ≡ out_behind z.rows z.advances (run advance (budget - length z.advances) (begin z.amounts) ys)
     next z = ap (λ (x : State). run advance budget x ys) (sym (whole z)) ∙ run-behind z.rows z.advances advance budget ys (begin z.amounts)

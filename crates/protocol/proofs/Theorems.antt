@@ -1,7 +1,7 @@
 -- Demand 3's claims about plain runs: `plain_run` and `samples_apart`. Assumes nothing.
 use mathlib.Core.Path.{◌≡◌, refl, sym, ap, ◌∙◌, subst}
 use Prim.Native.Nat.{ℕ, ◌+◌, ◌-◌, ◌≤◌, zero-le}
-use mathlib.Core.List.{List, [], ◌∷◌, ◌++◌, append_assoc, append_nil}
+use mathlib.Core.List.{List, [], ◌∷◌, ◌++◌, append_assoc, append-nil}
 use mathlib.Core.Logic.{◌⊎◌, inl, inr}
 use lib.Dec.{T}
 use lib.ListN.{length}
@@ -24,7 +24,7 @@ use Rattle.protocol.proofs.LastRow.{last_row}
 use Rattle.protocol.proofs.Independence.{same_boundary_rows, same-readings}
 
 flat_map_snoc : {A B : Type 0} (f : A → List B) (xs : List A) (x : A) → flat_map f xs ++ f x ≡ flat_map f (xs ++ (x ∷ []))
-flat_map_snoc f [] x = sym (append_nil (f x))
+flat_map_snoc f [] x = sym (append-nil (f x))
 flat_map_snoc f (y ∷ ys) x = append_assoc (f y) (flat_map f ys) (f x) ∙ ap (◌++◌ (f y)) (flat_map_snoc f ys x)
 
 module _ (n : ℕ) (advance : Propagator) {Refuses : Conditions} (laws : KernelLaws n advance Refuses) (w : Window) (ss : List Float)

@@ -1,5 +1,6 @@
 // The numbers of stored answers: lower-case hexadecimal, no leading zeros; and whether a double has the pattern of one.
 #![tactic(auto)]
+
 ghost use Rattle.std.specs.Prelude.{◌≡◌};
 ghost use Rattle.replay_numbers.specs.Doubles.{same_bits};
 ghost use Rattle.replay_numbers.specs.Text.{digit_of, spelled as spelledOf, number_of};

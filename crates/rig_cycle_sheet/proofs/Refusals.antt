@@ -1,6 +1,6 @@
 -- The printout of a refusal, and what a reply tells of a closed cycle.
 use mathlib.Core.Path.{◌≡◌, refl, sym, ap, ◌∙◌}
-use mathlib.Core.List.{List, ◌++◌, append_nil}
+use mathlib.Core.List.{List, ◌++◌, append-nil}
 use Prim.Native.Nat.{ℕ, ◌≤◌}
 use native.Mathlib.Omega.{arith}
 use borrow.Author.Tests.{ne_eqb}
@@ -56,7 +56,7 @@ module _ (n : ℕ) (o : Timed SteadyState) (kept : Kept n o) {r : SteadyReport} 
   answer-solved h l m = on o kept answer.reply answer.amounts answer.residuals
     where
       front : (xs old : List Float) → length xs ≡ n → length old ≡ n → xs ++ drop (length xs) old ≡ xs
-      front xs old p q = rw (p ∙ sym q, drop-length old, append_nil xs)
+      front xs old p q = rw (p ∙ sym q, drop-length old, append-nil xs)
 
       on : (o : Timed SteadyState) → Kept n o → r ≡ steady_report_of o → a' ≡ answer_at_exit (λ (s : SteadyState). s.amounts) o a
           → b' ≡ answer_at_exit (λ (s : SteadyState). s.residuals) o b → Solves o a' b'

@@ -4,7 +4,7 @@ use Prim.Native.Nat.{ℕ, zero, suc, ◌+◌, ◌≤◌, ◌<◌}
 use native.Mathlib.Nat.{lt_irrefl, not-suc-le-zero}
 use native.Mathlib.Omega.{arith}
 use mathlib.Core.Bool.{Bool, true, false, ◌&&◌}
-use mathlib.Core.List.{List, ◌++◌, append_nil}
+use mathlib.Core.List.{List, ◌++◌, append-nil}
 use lib.Dec.{leb}
 use lib.ListN.{length, take, drop_of_length-le}
 use lib.Seq.{take-append-le, take_all}
@@ -124,5 +124,5 @@ module _ (k : LinearPk) (n : ℕ) (x r : List Float) (d : Float) (room : ℕ) (s
       on (Refused i) (done y) s p q = absurd (not-suc-le-zero (subst (λ (j : ℕ). 1 ≤ j) p (refusal-number i)))
       on Done (refused c) s p q = absurd (lt_irrefl 0 (subst (λ (j : ℕ). 0 < j) (sym p) s))
       on Done (done y) s p q =
-          let w : out ≡ y = q ∙ ap (λ (v : List Float). y ++ v) (drop_of_length-le old {i = length y} (omega arith)) ∙ append_nil y in
+          let w : out ≡ y = q ∙ ap (λ (v : List Float). y ++ v) (drop_of_length-le old {i = length y} (omega arith)) ∙ append-nil y in
           ap done (ap (λ (v : List Float). take n (v ++ rest)) w ∙ take-append-le n y rest (omega arith) ∙ take_all n y (omega arith))

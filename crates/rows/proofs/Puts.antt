@@ -4,7 +4,7 @@ use Prim.Native.Nat.{ℕ, zero, suc, ◌+◌, ◌-◌, ◌*◌, ◌≤◌, ◌<�
 use native.Mathlib.Nat.{add-zero, le_of_suc-le-suc, not-suc-le-zero, mul-le-mul_right, suc-mul}
 use native.Mathlib.Numerals.{add-one}
 use native.Mathlib.Omega.{arith}
-use mathlib.Core.List.{List, [], ◌∷◌, ◌++◌, append_nil}
+use mathlib.Core.List.{List, [], ◌∷◌, ◌++◌, append-nil}
 use lib.ListN.{length, take, drop, set, length-drop, drop_of_length-le}
 use lib.Seq.{take_all}
 use borrow.Rule.Slice.PartMut.{put_mid, Post-is}
@@ -51,7 +51,7 @@ put-lent {A} k rs xs ys h e =
     let whole : take (length xs - k) (drop k xs) ≡ drop k xs = take_all (length xs - k) (drop k xs) (omega arith) in
     let laid : ys ≡ put 0 rs (drop k xs) = e ∙ ap (λ (z : List A). rs ++ drop (length rs) z) whole ∙ put_front rs (drop k xs) (omega arith) in
     ap₂ (λ (z w : List A). take k xs ++ (z ++ w)) laid (Post-is k (length xs) xs (omega arith) ∙ drop_of_length-le xs {i = length xs} (omega arith))
-    ∙ ap (λ (z : List A). take k xs ++ z) (append_nil (put 0 rs (drop k xs))) ∙ put-part k rs xs
+    ∙ ap (λ (z : List A). take k xs ++ z) (append-nil (put 0 rs (drop k xs))) ∙ put-part k rs xs
 
 -- ---- rows
 pub written-append : (n k : ℕ) (rs ts : List Row) (c : Cells) → written n k (rs ++ ts) c ≡ written n (k + length rs) ts (written n k rs c)

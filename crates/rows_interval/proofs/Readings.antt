@@ -4,7 +4,7 @@ use Prim.Native.Nat.{ℕ, ◌+◌, ◌<◌, ◌≤◌}
 use native.Mathlib.Numerals.{add-one}
 use native.Mathlib.Omega.{arith}
 use mathlib.Core.Bool.{Bool, true, false, ◌&&◌}
-use mathlib.Core.List.{List, [], ◌∷◌, ◌++◌, map, append_nil}
+use mathlib.Core.List.{List, [], ◌∷◌, ◌++◌, map, append-nil}
 use lib.ListN.{length, get_or, take, drop, take-append-drop}
 use lib.Seq.{take-suc, take_all}
 use lib.Ieee.{Float, nan, lt}
@@ -81,7 +81,7 @@ module _ {advance : Propagator} {n : ℕ} {t : Float} {r : List Float} {u : Floa
         going = h.going;
         ran =
             subst (λ (x : List Step). Ran advance n start x old p c) (sym (reads_more t r u ss k l
-            ∙ ap (λ (x : List Step). reads_to t r u ss k ++ x) e ∙ append_nil (reads_to t r u ss k))) h.ran;
+            ∙ ap (λ (x : List Step). reads_to t r u ss k ++ x) e ∙ append-nil (reads_to t r u ss k))) h.ran;
       }
 
       pub through_early : lt t (get_or ss k nan) ≡ false → Through advance n start t r u ss old p (k + 1) c

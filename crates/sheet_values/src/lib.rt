@@ -1,5 +1,6 @@
 // The doubles and the window that a sheet's words stand for.
 #![tactic(auto)]
+
 ghost use Rattle.std.specs.Prelude.{◌≡◌, ◌+◌, ◌*◌, ◌≤◌, length};
 ghost use Rattle.sheet_words.specs.Words.{words_of};
 ghost use Rattle.sheet_values.specs.Values.{double_of, doubles_from, propagations_of, sheet_window};

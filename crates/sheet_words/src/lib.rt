@@ -1,5 +1,6 @@
 // Little-endian words of a file, or of a part of it, and the head of a sheet: where its pairs put the bodies.
 #![tactic(auto)]
+
 ghost use Rattle.std.specs.Prelude.{◌≡◌, ◌+◌, ◌*◌, ◌≤◌, ◌<◌, ◌/◌, length, get_or, take, drop, ◌&&◌};
 ghost use Rattle.sheet_words.specs.Words.{little_endian, words_of, word as word_of};
 ghost use Rattle.sheet_words.specs.Head.{words_fit, placed};

@@ -1,5 +1,6 @@
 // What a run replies, and its reply as numbers.
 #![tactic(auto)]
+
 ghost use Rattle.std.specs.Prelude.{◌≡◌};
 ghost use Rattle.simulation_report.specs.Replies.{run_reply, reported};
 

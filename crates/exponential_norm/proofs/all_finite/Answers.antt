@@ -1,0 +1,20 @@
+use mathlib.Core.Path.{refl}
+use native.Mathlib.Omega.{arith}
+use Prim.Native.Nat.{◌-◌}
+use native.Mathlib.Nat.{le_antisymm}
+use native.Mathlib.Numerals.{add-one}
+use Rattle.matrix.specs.Matrix.{all_to, at}
+use Rattle.matrix.specs.Exponential.{all_finite}
+use Rattle.exponential_norm.proofs.all_finite.Goals as goal
+
+pub loop-i-init : goal.loop-i-init
+unfolding all_finite all_to
+loop-i-init c = (omega arith, refl)
+
+pub loop-i-preserved : goal.loop-i-preserved
+unfolding all_finite all_to
+loop-i-preserved c = (omega arith, rw (add-one, c.loop-i.invariant.1, c.row_finite-ok.ensures))
+
+pub returns : goal.returns
+unfolding all_finite all_to
+returns c = rw (le_antisymm c.loop-i.invariant.0 c.loop-i-test.false) at c.loop-i.invariant.1

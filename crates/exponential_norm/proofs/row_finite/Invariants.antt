@@ -1,0 +1,12 @@
+-- `exponential_norm::row_finite` meets its contract. The invariant: whether the first j are finite.
+use mathlib.Core.Path.{◌≡◌}
+use Prim.Native.Nat.{◌≤◌, ◌-◌}
+use lib.Ieee.Scale.{finite}
+use Rattle.matrix.specs.Matrix.{all_to, at}
+use Rattle.exponential_norm.proofs.row_finite.Given as goal
+
+abbrev pub invariant-loop-j : goal.invariant-loop-j
+invariant-loop-j l = (l.j ≤ l.m) × (l.ok ≡ all_to (λ j. finite (at l.a l.i j)) l.j)
+
+abbrev pub decreases-loop-j : goal.decreases-loop-j
+decreases-loop-j l = l.m - l.j

@@ -1,0 +1,21 @@
+use mathlib.Core.Path.{refl}
+use native.Mathlib.Omega.{arith}
+use Prim.Native.Nat.{◌-◌}
+use native.Mathlib.Nat.{le_antisymm}
+use native.Mathlib.Numerals.{add-one}
+use lib.Ieee.{of_bits, neg}
+use Rattle.matrix.specs.Matrix.{sum_to, at}
+use Rattle.matrix.specs.Exponential.{row_sum}
+use Rattle.exponential_norm.proofs.row_sum.Goals as goal
+
+pub loop-j-init : goal.loop-j-init
+unfolding neg of_bits row_sum sum_to
+loop-j-init c = (omega arith, refl)
+
+pub loop-j-preserved : goal.loop-j-preserved
+unfolding neg of_bits row_sum sum_to
+loop-j-preserved c = (omega arith, rw (add-one, c.abs-sum.ensures, c.loop-j.invariant.1))
+
+pub returns : goal.returns
+unfolding neg of_bits row_sum sum_to
+returns c = rw (le_antisymm c.loop-j.invariant.0 c.loop-j-test.false) at c.loop-j.invariant.1

@@ -1,0 +1,12 @@
+-- `printout_numbers::digit` meets its contract.
+use borrow.Author.Tests.{lt-ltb, le-ltb}
+use Rattle.printout_numbers.specs.Digits.{glyph}
+use Rattle.printout_numbers.proofs.digit.Goals as goal
+
+pub returns-then-d-lt10 : goal.returns-then-d-lt10
+unfolding glyph
+returns-then-d-lt10 c = rw (lt-ltb _ _ c.if-d-lt10.true)
+
+pub returns-else-d-lt10 : goal.returns-else-d-lt10
+unfolding glyph
+returns-else-d-lt10 c = rw (le-ltb _ _ c.if-d-lt10.false)
