@@ -1,5 +1,6 @@
 // Events in arrays of numbers. An array of events cannot be lent, and passing one by value copies it whole: the list that a run is given is packed once.
 #![tactic(auto)]
+
 ghost use Rattle.std.specs.Prelude.{◌≡◌, ◌<◌};
 ghost use Rattle.limits.specs.Limits.{most_events};
 ghost use Rattle.protocol.specs.Events.{time as timeOf, target as target_of, no_event};

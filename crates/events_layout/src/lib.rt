@@ -1,5 +1,6 @@
 // Events laid out as 64-bit words, six to an event: kind, time, target, amount or value, duration or order, stops.
 #![tactic(auto)]
+
 ghost use Rattle.std.specs.Prelude.{◌≡◌, ◌+◌, ◌*◌, ◌≤◌, ◌<◌, length};
 ghost use Rattle.limits.specs.Limits.{most_events, event_size};
 ghost use Rattle.events_layout.specs.Fields.{words_listed, event_from};

@@ -1,5 +1,6 @@
 // Events packed into arrays of numbers.
 #![tactic(auto)]
+
 ghost use Rattle.std.specs.Prelude.{◌≡◌, [], ◌∷◌, ◌++◌, ◌≤◌, ◌<◌, ◌+◌, length, take};
 ghost use Rattle.limits.specs.Limits.{most_events};
 ghost use Rattle.protocol.specs.Events.{order};

@@ -1,5 +1,6 @@
 // Events written as 64-bit words, six to an event: the layout that `events_layout` reads. Words that a kind lacks are 0.
 #![tactic(auto)]
+
 ghost use Rattle.std.specs.Prelude.{◌≡◌, ◌+◌, ◌≤◌, length};
 ghost use Rattle.limits.specs.Limits.{event_size};
 ghost use Rattle.printout_numbers.specs.Written.{Wrote};

@@ -1,6 +1,7 @@
 // The exponential of a block by scaling and squaring of its Taylor series.
 // Matrices are arrays of arrays, of which the leading m by m part is in use.
 #![tactic(auto)]
+
 ghost use Rattle.std.specs.Prelude.{◌≡◌, ◌≤◌, length};
 ghost use Rattle.limits.specs.Limits.{block};
 ghost use Rattle.matrix.specs.Arrays.{lead, Holds};

@@ -1,5 +1,6 @@
 // One event of a cycle folded: an infusion its pieces within one period, any other event itself; 16, 17, 18, 13.
 #![tactic(auto)]
+
 ghost use Rattle.std.specs.Prelude.{◌≡◌, ◌≤◌, ◌+◌, ◌<◌, length, [], ◌∷◌};
 ghost use Rattle.limits.specs.Limits.{most_events};
 ghost use Rattle.events.specs.Packed.{packed, event_at};

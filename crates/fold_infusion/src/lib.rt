@@ -1,5 +1,6 @@
 // An infusion up to its stop: whole periods unless a reset stops the infusions on its target, head and tail, behind a packed list.
 #![tactic(auto)]
+
 ghost use Rattle.std.specs.Prelude.{◌≡◌, [], ◌∷◌, ◌≤◌, ◌+◌, length};
 ghost use Rattle.std.specs.Float.Ieee.{lt};
 ghost use Rattle.limits.specs.Limits.{most_events};

@@ -1,5 +1,6 @@
 // The list of a cycle in an array of places, what is answered with it, and its events.
 #![tactic(auto)]
+
 ghost use Rattle.std.specs.Prelude.{◌≡◌, ◌≤◌, get_or, map};
 ghost use Rattle.limits.specs.Limits.{most_events};
 ghost use Rattle.refusal.specs.Result.{refused};

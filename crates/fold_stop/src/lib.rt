@@ -1,6 +1,7 @@
 // The reply of a fold, whether an infusion of a cycle passes, and its earliest stop among the resets of a list.
 // The list so far stands packed in the first `at` places of two arrays, and what a fold gives goes behind it.
 #![tactic(auto)]
+
 ghost use Rattle.std.specs.Prelude.{◌≡◌, cond, ◌≤◌};
 ghost use Rattle.limits.specs.Limits.{most_events};
 ghost use Rattle.cycle.specs.Fold.{infusion_passes, stopping as stoppingOf, next_time, earlier as earlierOf, stop_of};

@@ -1,5 +1,6 @@
 // Amounts after an interval with constant input rates, of n states and the rates between them.
 #![tactic(auto)]
+
 ghost use Rattle.std.specs.Prelude.{◌≡◌, ◌≤◌, ◌+◌, ◌++◌, length, drop};
 ghost use Rattle.limits.specs.Limits.{states};
 ghost use Rattle.matrix.specs.Arrays.{lead};

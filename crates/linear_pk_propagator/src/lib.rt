@@ -1,5 +1,6 @@
 // The exponential of a duration, of n states and the rates between them, and the amounts after it is applied to them.
 #![tactic(auto)]
+
 ghost use Rattle.std.specs.Prelude.{◌≡◌, ◌≤◌, ◌<◌, ◌+◌, length, take};
 ghost use Rattle.limits.specs.Limits.{states, block};
 ghost use Rattle.matrix.specs.Matrix.{tabulate, table, cell, all_to};

@@ -1,6 +1,7 @@
 // What the inner runs of a closed cycle start from: the divided budgets, the zeroed list, the unit amounts; cells for the packed list, the
 // rows and the boundaries.
 #![tactic(auto)]
+
 ghost use Rattle.std.specs.Prelude.{◌≡◌, length, List, ℕ, ◌≤◌, ◌<◌};
 ghost use Rattle.limits.specs.Limits.{states, most_events, most_samples, most_boundaries, cycle_rows, cycle_values};
 ghost use Rattle.events.specs.Packed.{packed};

@@ -1,5 +1,6 @@
 // The tests of a window with its samples and events: 10, 11, 12 event by event.
 #![tactic(auto)]
+
 ghost use Rattle.std.specs.Prelude.{◌≡◌, ◌≤◌, ◌<◌, []};
 ghost use Rattle.limits.specs.Limits.{most_events};
 ghost use Rattle.binary64.specs.Lists.{any, all};

@@ -1,6 +1,7 @@
 // The reader of a sheet: bytes of any length and contents to the places of its bodies, or 40, then 5. The words stay in the file, and each
 // body is read as its own part of it.
 #![tactic(auto)]
+
 ghost use Rattle.std.specs.Prelude.{◌≡◌, ◌+◌, ◌*◌, ◌≤◌, length};
 ghost use Rattle.limits.specs.Limits.{event_bytes};
 ghost use Rattle.events_layout.specs.Layout.{event_fits, events_fit};

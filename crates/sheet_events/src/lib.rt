@@ -1,5 +1,6 @@
 // The events that a sheet's words stand for, and the sum of its doses.
 #![tactic(auto)]
+
 ghost use Rattle.std.specs.Prelude.{◌≡◌, ◌+◌, ◌*◌, ◌≤◌, length};
 ghost use Rattle.limits.specs.Limits.{most_events, event_bytes};
 ghost use Rattle.events_layout.specs.Layout.{event_of, event_or_none, events_of};

@@ -13,6 +13,5 @@ pub returns : goal.returns
 unfolding of_bits
 returns c =
     let e = c.number-number.ensures in
-    let p = c.print_run-length.ensures in
     prints (refusal-text _ _ _ _ _ _ _ _ (omega (arith, refusal-number c.args.refusal, e))
-    ∙ ap (λ (n : ℕ). refused_text n plus_zero) e) (refusal_some _ _) c.reply_of.ensures.0 c.reply_of.ensures.1 p.0 p.1
+    ∙ ap (λ (n : ℕ). refused_text n plus_zero) e) (refusal_some _ _) c.reply_of.ensures.0 c.reply_of.ensures.1 c.print_run-length.ensures.value c.print_run-length.ensures.out_after

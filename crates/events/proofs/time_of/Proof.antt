@@ -1,9 +1,0 @@
--- `events::time_of` meets its contract.
-use borrow.Author.Rules.{rules}
-use Rattle.events.proofs.time_of.Statement.{statement}
-use Rattle.events.proofs.time_of.Tie as tie
-
-pub time-of-spec : {M : Type 1} → statement M
-time-of-spec = tie.close (tie.spec
-    (λ c. search rules) (λ c. search rules) (λ c. search rules) (λ c. rw c.before.event.given.1)
-    (λ c. rw c.before.event2.given.1) (λ c. rw c.before.event3.given.1))

@@ -1,0 +1,16 @@
+-- `events_boundaries::boundaries` meets its contract.
+use mathlib.Core.Path.{sym, ◌∙◌}
+use native.Mathlib.Omega.{arith}
+use lib.ListN.{length-append}
+use lib.Seq.{take-append-le, length-take-le}
+use Rattle.protocol.specs.Events.{boundaries}
+use Rattle.events_boundaries.proofs.boundaries.Goals as goal
+
+pub returns : goal.returns
+unfolding boundaries
+returns c =
+    let w = c.sorted_unique.ensures in
+    (simp length-append (omega arith), take-append-le _ _ _ w.0 ∙ rw c.lay-n.ensures.1 at w.1, rw c.lay-n.ensures.1 at w.2)
+
+pub slice_bounds-sorted_unique-end-2 : goal.slice_bounds-sorted_unique-end-2
+slice_bounds-sorted_unique-end-2 c = sym (length-take-le _ _ c.lay-n.ensures.0)

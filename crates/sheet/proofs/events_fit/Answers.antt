@@ -1,0 +1,25 @@
+use mathlib.Core.Path.{refl}
+use native.Mathlib.Omega.{arith}
+use native.Mathlib.Nat.{le_antisymm}
+use native.Mathlib.Numerals.{add-one}
+use Prim.Native.Nat.{◌-◌}
+use Rattle.matrix.specs.Matrix.{all_to}
+use Rattle.events_layout.specs.Layout.{events_fit}
+use Rattle.sheet_words.proofs.Bytes.{words-length}
+use Rattle.sheet.proofs.events_fit.Goals as goal
+
+pub returns : goal.returns
+unfolding events_fit
+returns c = rw (words-length, rw (le_antisymm c.loop-i.invariant.0 c.loop-i-test.false) at c.loop-i.invariant.1)
+
+pub loop-i-init : goal.loop-i-init
+unfolding all_to
+loop-i-init c = (omega arith, refl)
+
+pub event_fits-ok-requires : goal.event_fits-ok-requires
+unfolding all_to
+event_fits-ok-requires c = omega arith
+
+pub loop-i-preserved : goal.loop-i-preserved
+unfolding all_to
+loop-i-preserved c = (omega arith, rw (add-one, c.event_fits-ok.ensures, c.loop-i.invariant.1))
