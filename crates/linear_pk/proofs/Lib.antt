@@ -1,3 +1,3 @@
 pub mod Counted
 pub mod Cases
-pub mod Made
+pub mod NewSound

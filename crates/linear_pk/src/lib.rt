@@ -1,5 +1,6 @@
 // Constant-coefficient mammillary kinetics with one to three compartments and an optional depot.
 #![tactic(auto)]
+
 mod advance;
 mod bind;
 mod concentrations;

@@ -1,5 +1,6 @@
 // The matrix of rates of a mammillary model: central, up to two peripherals, an optional depot.
 #![tactic(auto)]
+
 ghost use Rattle.std.specs.Prelude.{◌≡◌, ◌+◌, ◌≤◌, ◌<◌, length};
 ghost use Rattle.std.specs.Float.Ieee.Scale.{finite};
 ghost use Rattle.limits.specs.Limits.{states, rate_cells};

@@ -1,5 +1,6 @@
 // What a kernel is made of and bound to: the absorption, values that pass, amounts with +0 past them; amounts by volume.
 #![tactic(auto)]
+
 ghost use Rattle.std.specs.Prelude.{◌≡◌, ◌≤◌, ◌<◌, ◌+◌, length, take};
 ghost use Rattle.limits.specs.Limits.{states, most_volumes};
 ghost use Rattle.linear_pk_mammillary.specs.Rates.{padded, central};

@@ -1,5 +1,6 @@
 // The bytes of one more cycle from the amounts of a closed one, into lent cells, and whether it closes.
 #![tactic(auto)]
+
 ghost use Rattle.std.specs.Prelude.{◌≡◌, ◌≤◌, ◌+◌, ◌*◌, length, take};
 ghost use Rattle.limits.specs.Limits.{states};
 ghost use Rattle.cycle.specs.Closed.{scaled_of};

@@ -10,7 +10,7 @@ use Rattle.refusal.specs.declared.Reply.{Reply}
 use Rattle.refusal.specs.declared.Reply.TheVariants.{Done, Refused}
 use Rattle.linear_pk.specs.LinearPk.{sound}
 use Rattle.linear_pk.specs.declared.kernel.LinearPk.{LinearPk}
-use Rattle.linear_pk.proofs.Made.{new-sound}
+use Rattle.linear_pk.proofs.NewSound.{new-sound}
 use Rattle.sheet.specs.Sheet.{words_of, Sheet, sheet_of, read_sheet}
 use Rattle.sheet.specs.Reader.{Between}
 use Rattle.sheet.specs.Readable.{Readable}

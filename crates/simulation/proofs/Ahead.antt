@@ -20,7 +20,7 @@ use Rattle.refusal.specs.declared.Refusal.{Refusal}
 use Rattle.refusal.specs.Result as R
 use Rattle.linear_pk.specs.declared.kernel.LinearPk.{LinearPk}
 use Rattle.linear_pk.specs.declared.bind.BoundLinearPk.{BoundLinearPk}
-use Rattle.linear_pk.proofs.Made.{padded_front}
+use Rattle.linear_pk.proofs.NewSound.{padded_front}
 use Rattle.linear_pk.specs.LinearPk.{padded, state_count, volumes_pass, matrix_finite, sound, bind}
 use Rattle.protocol.specs.declared.Event.{Event}
 use Rattle.protocol.specs.declared.Window.{Window}
