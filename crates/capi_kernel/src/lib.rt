@@ -1,5 +1,6 @@
 // A kernel and a bound kernel as cells, doubles in a slice.
 #![tactic(auto)]
+
 ghost use Rattle.std.specs.Prelude.{◌≡◌, length};
 ghost use Rattle.refusal.specs.Result.{number, slice_at_exit};
 ghost use Rattle.capi_kernel.specs.Cells.{absorption_of, kernel_at, new_cells, bind_cells};

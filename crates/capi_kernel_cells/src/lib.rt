@@ -1,5 +1,6 @@
 // A kernel and a bound kernel as cells, doubles in a slice: read and written.
 #![tactic(auto)]
+
 ghost use Rattle.std.specs.Prelude.{◌≡◌, ◌≤◌, ◌+◌, ◌<◌, length, cond, pos};
 ghost use Rattle.std.specs.Float.{binary64};
 ghost use Rattle.std.specs.Float.Ieee.{eq, of_int};

@@ -1,5 +1,6 @@
 // Single steps at a boundary: the state is checked, or a reset or a bolus is applied and the state checked.
 #![tactic(auto)]
+
 ghost use Rattle.std.specs.Prelude.{◌≡◌, ◌≤◌, take, [], ◌∷◌, map};
 ghost use Rattle.limits.specs.Limits.{states};
 ghost use Rattle.binary64.specs.Doubles.{nonnegative};

@@ -1,5 +1,6 @@
 // Packed lists folded: 15, 13, then event by event 16, 17, 18, 13, at last 10, 11, 12.
 #![tactic(auto)]
+
 ghost use Rattle.std.specs.Prelude.{◌≡◌, [], ◌≤◌, ◌*◌, length};
 ghost use Rattle.limits.specs.Limits.{states, most_cycle_events, most_events};
 ghost use Rattle.refusal.specs.Result.{value_or};

@@ -1,5 +1,6 @@
 // `prepare_simulation`: 13, 10, 11, 12 event by event, 14.
 #![tactic(auto)]
+
 pub mod admission;
 
 ghost use Rattle.std.specs.Prelude.{◌≡◌, ◌≤◌};

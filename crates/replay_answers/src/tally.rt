@@ -1,4 +1,4 @@
-// How often each entry gave each reply, and how many answers differ.
+// How often each entry gave each reply, and how many answers differ. A write that fails is passed over.
 ghost use Rattle.std.specs.Prelude.{◌<◌};
 
 // One above the largest reply.
@@ -40,11 +40,10 @@ impl Tally {
     }
 
     // With a difference in the present line, which is shown.
-    fn differing(mut self) -> Self {
+    fn differing(mut self, rt: &impl Print) -> Self {
         self.differ = one_more(self.differ);
-        io::write_all(1, b"line ");
-        io::print_decimal(1, self.lines);
-        io::write_all(1, b" differs\n");
+        let lines = self.lines;
+        let _ = println!(rt; "line {lines} differs");
         self
     }
 
@@ -62,14 +61,14 @@ impl Tally {
     }
 
     // With what a further line came to.
-    pub fn added(mut self, outcome: Outcome) -> Self {
+    pub fn added(mut self, rt: &impl Print, outcome: Outcome) -> Self {
         self.lines = one_more(self.lines);
         match outcome {
             Outcome::Comment => self,
-            Outcome::Malformed => self.answered().differing(),
+            Outcome::Malformed => self.answered().differing(rt),
             Outcome::Called { entry, reply, same } => {
                 let next = self.answered().replied(entry, reply);
-                if same { next } else { next.differing() }
+                if same { next } else { next.differing(rt) }
             }
         }
     }
@@ -80,32 +79,27 @@ impl Tally {
     }
 
     // The counts of one entry, of the replies that were met.
-    pub fn print_entry(self, entry: usize, name: &[u8])
+    pub fn print_entry(self, rt: &impl Print, entry: usize, name: &[u8])
         requires { entry < 4 }
     {
         let counts = self.counts;
         for reply in 0..REPLIES {
-            print_count(name, reply as u64, counts[entry * REPLIES + reply]);
+            print_count(rt, name, reply as u64, counts[entry * REPLIES + reply]);
         }
     }
 
-    pub fn print_total(self) {
-        io::print_decimal(1, self.answers);
-        io::write_all(1, b" answers, ");
-        io::print_decimal(1, self.differ);
-        io::write_all(1, b" differ\n");
+    pub fn print_total(self, rt: &impl Print) {
+        let answers = self.answers;
+        let differ = self.differ;
+        let _ = println!(rt; "{answers} answers, {differ} differ");
     }
 }
 
 // A line for a reply that was met.
-fn print_count(name: &[u8], reply: u64, count: u64) {
+fn print_count(rt: &impl Print, name: &[u8], reply: u64, count: u64) {
     if count == 0 {
         return;
     }
-    io::write_all(1, name);
-    io::write_all(1, b" ");
-    io::print_decimal(1, reply);
-    io::write_all(1, b": ");
-    io::print_decimal(1, count);
-    io::write_all(1, b"\n");
+    let _ = rt.write_all(name);
+    let _ = println!(rt; " {reply}: {count}");
 }

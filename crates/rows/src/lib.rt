@@ -1,5 +1,6 @@
 // The blocks of a run: a row written into lent slices, the kernel's advance and the arrival at a boundary; zeros over the reckoned rows.
 #![tactic(auto)]
+
 ghost use Rattle.std.specs.Prelude.{◌≡◌, [], ◌∷◌, ◌++◌, ℕ, ◌+◌, ◌*◌, ◌≤◌, ◌<◌, length, take, drop};
 ghost use Rattle.limits.specs.Limits.{states};
 ghost use Rattle.protocol.specs.Schedule.{arrive as arrives};

@@ -1,5 +1,6 @@
 // The reader of a sheet and of its kernel, and the tolerance of its closed cycle.
 #![tactic(auto)]
+
 ghost use Rattle.std.specs.Prelude.{◌≡◌, true, ◌+◌, ◌-◌, ◌*◌, ◌≤◌, length};
 ghost use Rattle.refusal.specs.Numbers.{result_of};
 ghost use Rattle.linear_pk.specs.LinearPk.{no_kernel};

@@ -1,0 +1,8 @@
+-- `doses_steps::apply_one` meets its contract.
+use Rattle.doses_steps.proofs.Steps.{apply_takes}
+use Rattle.doses_steps.proofs.apply_one.Goals as goal
+
+pub returns : goal.returns
+returns c =
+    apply_takes c.args.n c.args.t c.args.start c.args.event c.dose-next.result
+    c.dose-next.ensures c.tested.ensures

@@ -1,0 +1,6 @@
+-- `doses_steps::check_at` meets its contract.
+use Rattle.doses_steps.proofs.Steps.{check_takes}
+use Rattle.doses_steps.proofs.check_at.Goals as goal
+
+pub returns : goal.returns
+returns c = check_takes c.args.n c.args.t c.args.start c.tested.ensures

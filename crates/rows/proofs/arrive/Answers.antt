@@ -1,0 +1,25 @@
+-- `rows::arrive` meets its contract.
+use native.Mathlib.Omega.{arith}
+use lib.ListN.{take}
+use Rattle.rows.proofs.Steps.{arrive-spent, arrive-refused, arrive-done}
+use Rattle.rows.proofs.arrive.Goals as goal
+
+pub returns-then-start-eq0 : goal.returns-then-start-eq0
+returns-then-start-eq0 c =
+    let g = c.args in
+    λ d. rw (c.stopped_by.ensures, c.past_advance-next.ensures)
+    (arrive-spent g.start d g.t (take g.n g.rates) g.u c.if-start-eq0.true)
+
+pub returns-in-Refused : goal.returns-in-Refused
+returns-in-Refused c =
+    let g = c.args in
+    λ d. rw (c.stopped_by-in-Refused.ensures, c.past_advance-next.ensures)
+    (arrive-refused g.start d g.t (take g.n g.rates) g.u c.propagate-m.result
+    (omega (arith, c.if-start-eq0.false)) c.propagate-m.ensures _ c.in-Refused.is)
+
+pub returns-in-Done : goal.returns-in-Done
+returns-in-Done c =
+    let g = c.args in
+    λ d. rw (c.with_amounts.ensures, c.past_advance-next.ensures)
+    (arrive-done g.start d g.t (take g.n g.rates) g.u c.propagate-m.result
+    (omega (arith, c.if-start-eq0.false)) c.propagate-m.ensures c.in-Done.is)

@@ -1,0 +1,11 @@
+-- `rows::clear_reals` meets its contract. The invariant: the first i cells are cleared.
+use Prim.Native.Nat.{◌-◌}
+use Rattle.binary64.specs.Doubles.{plus_zero}
+use Rattle.rows.proofs.Clears.{Clearing}
+use Rattle.rows.proofs.clear_reals.Given as goal
+
+abbrev pub invariant-loop-i : goal.invariant-loop-i
+invariant-loop-i l = Clearing plus_zero l.k l.initial.list l.list l.i
+
+abbrev pub decreases-loop-i : goal.decreases-loop-i
+decreases-loop-i l = l.k - l.i
