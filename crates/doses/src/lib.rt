@@ -1,5 +1,6 @@
 // The doses of a boundary: the resets by order, the boluses in list order, each checked.
 #![tactic(auto)]
+
 pub mod resets;
 
 ghost use Rattle.std.specs.Prelude.{map, ◌++◌, ◌≤◌};

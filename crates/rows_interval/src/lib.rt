@@ -1,5 +1,6 @@
 // From a boundary to the next: the readings strictly inside, and the arrival.
 #![tactic(auto)]
+
 ghost use Rattle.std.specs.Prelude.{[], ◌∷◌, map, take, ◌≡◌};
 ghost use Rattle.protocol.specs.Schedule.{reading, on_interval};
 ghost use Rattle.rows.specs.Written.{cells};

@@ -1,9 +1,0 @@
--- `replay_linear_pk::replay::agrees` is safe and ends.
-use Prim.Native.Nat.{◌≤◌, ◌-◌}
-use Rattle.replay_linear_pk.proofs.replay.agrees.Given as goal
-
-abbrev pub invariant-loop-i : goal.invariant-loop-i
-invariant-loop-i l = l.i ≤ l.count
-
-abbrev pub decreases-loop-i : goal.decreases-loop-i
-decreases-loop-i l = l.count - l.i
