@@ -1,5 +1,6 @@
 // `normalize_periodic_cycle`: the list of a cycle packed, folded into one period, and set in the places of an answer.
 #![tactic(auto)]
+
 ghost use Rattle.std.specs.Prelude.{◌≡◌, ◌≤◌, take};
 ghost use Rattle.limits.specs.Limits.{states, most_cycle_events};
 ghost use Rattle.cycle.specs.Fold.{fold};

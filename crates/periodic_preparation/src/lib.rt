@@ -1,5 +1,6 @@
 // What is ahead of the runs of a closed cycle: its tolerances, the fold, and the preparation on the divided budgets.
 #![tactic(auto)]
+
 ghost use Rattle.std.specs.Prelude.{◌≡◌, ◌≤◌, length};
 ghost use Rattle.limits.specs.Limits.{states, most_cycle_events, most_events};
 ghost use Rattle.refusal.specs.Numbers.{result_of};

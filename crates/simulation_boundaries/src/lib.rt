@@ -1,5 +1,6 @@
 // The loop over boundaries of the analytic run.
 #![tactic(auto)]
+
 ghost use Rattle.std.specs.Prelude.{◌≤◌, length};
 ghost use Rattle.limits.specs.Limits.{most_events};
 ghost use Rattle.events.specs.Packed.{packed};
