@@ -1,5 +1,6 @@
 // The folded cycle over words, six to an event, for the C interface.
 #![tactic(auto)]
+
 ghost use Rattle.std.specs.Prelude.{◌≡◌, [], map, ◌≤◌, ◌*◌, length, take};
 ghost use Rattle.limits.specs.Limits.{most_events, event_size};
 ghost use Rattle.refusal.specs.Numbers.{reply_number};

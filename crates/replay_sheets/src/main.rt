@@ -1,29 +1,30 @@
 // Replays stored sheets against the library. Standard input has a line for each sheet, in the layout of reference/README.md, with the printout
 // over the reference; a line that starts with '#' is a comment. Prints how often each number was given, and how many printouts differ.
 #![tactic(auto)]
+
 mod replay;
 
 use replay_answers::Tally;
 
 // What the lines of a text came to.
-fn replayed(text: &[u8]) -> Tally {
+fn replayed(rt: &impl Print, text: &[u8]) -> Tally {
     let mut tally = Tally::new();
     let mut at = 0usize;
     while at < text.len() {
         let end = replay_answers::end(text, at, b'\n');
         let outcome = replay::replay(&text[at..end]);
-        let next = tally.added(outcome);
+        let next = tally.added(rt, outcome);
         tally = next;
         at = end + 1;
     }
     tally
 }
 
-fn main() {
+fn main(rt: HostRuntime) {
     let mut input = replay_answers::room();
-    let n = io::read_full(0, &mut input);
-    let tally = replayed(&input[..n]);
-    tally.print_entry(0, b"run_sheet");
-    tally.print_entry(1, b"steady_sheet");
-    tally.print_total();
+    let n = replay_answers::read_full(&mut rt.stdin(), &mut input);
+    let tally = replayed(&rt, &input[..n]);
+    tally.print_entry(&rt, 0, b"run_sheet");
+    tally.print_entry(&rt, 1, b"steady_sheet");
+    tally.print_total(&rt);
 }

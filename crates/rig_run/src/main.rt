@@ -1,11 +1,14 @@
 // Reads a sheet on standard input to its end and writes its printout.
 #![tactic(auto)]
-ghost use Rattle.std.specs.Prelude.{◌+◌, ◌≡◌, length};
+
+ghost use Rattle.std.specs.Prelude.{◌+◌, ◌≡◌, ◌≤◌, true, length, take};
+ghost use Rattle.std.specs.Io.KnownBytes.{Appends, Consumes};
 ghost use Rattle.limits.specs.Limits.{sheet_bytes};
-ghost use Rattle.rig_run_printout.specs.Rig.{most_bytes};
+ghost use Rattle.rig_run_printout.specs.Rig.{printout_of_bytes, most_bytes};
 
 use limits::SHEET_BYTES;
 use rig_run_printout::RUN_BYTES;
+use std::io::{Read, Write};
 
 // Room for a sheet and one byte more: a longer file is as unfit as this much of it.
 fn input() -> [u8; SHEET_BYTES + 1]
@@ -21,18 +24,39 @@ fn output() -> [u8; RUN_BYTES]
     [0; RUN_BYTES]
 }
 
-// Runs the sheet and writes its printout; whether all of it was written.
-fn run(sheet: &[u8], text: &mut [u8]) -> bool {
-    let reply = rig_run_printout::run_sheet(sheet, text);
-    io::write_all(1, &text[..reply.length])
+// Reads until `bytes` is full, the input ends or a read fails; how many bytes stand at the start of `bytes`.
+fn read_full<R: Read>(input: &mut R, bytes: &mut [u8]) -> usize
+    ensures within { result ≤ length bytes.new }
+    ensures taken { Consumes (R.remaining input.old) (R.remaining input.new) (take result bytes.new) }
+{
+    let mut done = 0;
+    while done < bytes.len() {
+        let Ok(n) = input.read(&mut bytes[done..]) else {
+            return done;
+        };
+        if n == 0 {
+            return done;
+        }
+        done += n;
+    }
+    done
 }
 
-fn main() {
+// Runs the sheet and writes its printout; whether all of it was written.
+fn run<W: Write>(sheet: &[u8], text: &mut [u8], out: &mut W) -> bool
+    ensures { result ≡ true → length text.old ≡ most_bytes →
+        Appends (W.contents out.old) (W.contents out.new) (printout_of_bytes sheet.now).text }
+{
+    let reply = rig_run_printout::run_sheet(sheet, text);
+    out.write_all(&text[..reply.length]).is_ok()
+}
+
+fn main(rt: HostRuntime) {
     let mut bytes = input();
-    let n = io::read_full(0, &mut bytes);
+    let n = read_full(&mut rt.stdin(), &mut bytes);
     let mut text = output();
-    let written = run(&bytes[..n], &mut text);
+    let written = run(&bytes[..n], &mut text, &mut rt.stdout());
     if !written {
-        io::write_all(2, b"rig-run: standard output cannot be written\n");
+        let _ = eprintln!(rt; "rig-run: standard output cannot be written");
     }
 }

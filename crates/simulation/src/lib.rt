@@ -1,5 +1,6 @@
 // `simulate`: the tests ahead of a run, the run, and what it leaves in the three lent slices.
 #![tactic(auto)]
+
 ghost use Rattle.std.specs.Prelude.{◌≡◌, [], ◌≤◌, ◌*◌, length, take};
 ghost use Rattle.std.proofs.Math.Option.{none};
 ghost use Rattle.limits.specs.Limits.{states};

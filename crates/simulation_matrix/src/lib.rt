@@ -1,5 +1,6 @@
 // The analytic run of `simulate_matrix`: the boundaries, the distinct samples, and the run over them.
 #![tactic(auto)]
+
 ghost use Rattle.std.specs.Prelude.{◌≡◌, ◌≤◌, T, length, take};
 ghost use Rattle.std.proofs.Math.Option.{none};
 ghost use Rattle.std.specs.Float.{binary64};
