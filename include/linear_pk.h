@@ -3,7 +3,7 @@
  * optional depot, its kernel, runs over lists of doses and resets, the steady
  * state of a repeated cycle, and the printouts of a sheet.
  *
- * Build the archive with `rt staticlib capi` and link target/staticlib/libcapi.a
+ * Build the archive with `scripts/archive` and link target/staticlib/libcapi.a
  * and the mathematical library (-lm).
  * It needs no heap, and of other libraries the C library's fmod alone. Of stack
  * rig_steady_sheet and linear_pk_periodic_steady_state take 78 KiB, rig_run_sheet

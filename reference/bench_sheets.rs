@@ -147,7 +147,7 @@ fn programs() -> [PathBuf; 2] {
     let own = std::env::current_exe().expect("this program");
     let folder = own.parent().expect("a folder");
     let ours = std::env::var_os("RIG_RUN").map(PathBuf::from);
-    let ours = ours.unwrap_or_else(|| folder.join("../bin/rig_run"));
+    let ours = ours.unwrap_or_else(|| folder.join("../../crates/rig_run/out/rig_run"));
     let programs = [folder.join("rig_run"), ours];
     for program in &programs {
         if !program.exists() {

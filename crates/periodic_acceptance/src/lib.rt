@@ -1,5 +1,6 @@
 // The acceptance of a closed cycle's candidate, by its own run; what a closed cycle replies, and the writing of its answers.
 #![tactic(auto)]
+
 ghost use Rattle.std.specs.Prelude.{◌≡◌, ◌++◌, ◌≤◌, length, take, drop};
 ghost use Rattle.limits.specs.Limits.{states};
 ghost use Rattle.binary64.specs.Doubles.{plus_zero};

@@ -1,5 +1,6 @@
 // The candidate of a closed cycle, from the runs and elimination.
 #![tactic(auto)]
+
 ghost use Rattle.std.specs.Prelude.{◌≡◌, ◌≤◌, length, take};
 ghost use Rattle.limits.specs.Limits.{states, most_events};
 ghost use Rattle.events.specs.Packed.{packed};

@@ -36,6 +36,7 @@ use Rattle.periodic_next.specs.ReachesEnd.{ReachesEnd}
 -- a test that holds
 holds : (b : Bool) → T b → b ≡ true
 holds true h = refl
+holds false h = absurd h
 
 -- the last of some rows
 last_of_lem : (rs : List Row) (r d : Row) → get_or (rs ++ (r ∷ [])) (length rs) d ≡ r

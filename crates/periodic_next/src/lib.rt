@@ -1,5 +1,6 @@
 // One cycle of a folded list from given amounts, by the library's run.
 #![tactic(auto)]
+
 ghost use Rattle.std.specs.Prelude.{◌≡◌, ◌+◌, ◌≤◌, length, take, drop};
 ghost use Rattle.limits.specs.Limits.{most_events, cycle_rows, cycle_values};
 ghost use Rattle.linear_pk.specs.LinearPk.{state_count};

@@ -1,5 +1,6 @@
 // The inner runs of a closed cycle, from amounts at the start to those of the last post row, and the columns of the unit amounts.
 #![tactic(auto)]
+
 ghost use Rattle.std.specs.Prelude.{◌≡◌, ◌≤◌, length, take};
 ghost use Rattle.limits.specs.Limits.{states, most_events, most_samples, most_boundaries, cycle_rows, cycle_values};
 ghost use Rattle.events.specs.Packed.{packed};

@@ -1,5 +1,6 @@
 // The run of a kernel and the other bodies of a sheet, and cells for the most that a sheet holds.
 #![tactic(auto)]
+
 ghost use Rattle.std.specs.Prelude.{◌≡◌, cond, leb, length, ◌*◌, ◌/◌, ◌≤◌};
 ghost use Rattle.limits.specs.Limits.{most_cycle_events, most_samples, event_size, sheet_rows, sheet_values, read_amounts};
 ghost use Rattle.linear_pk.specs.LinearPk.{state_count};

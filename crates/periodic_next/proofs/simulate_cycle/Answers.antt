@@ -1,0 +1,43 @@
+-- `periodic_next::simulate_cycle` meets its contract.
+use mathlib.Core.Path.{ap, ◌∙◌}
+use native.Mathlib.Omega.{arith}
+use Prim.Native.Nat.{ℕ, ◌≤◌}
+use Rattle.linear_pk.specs.LinearPk.{state_count}
+use Rattle.cycle.specs.Closed.{divided}
+use Rattle.periodic_next.proofs.LastRow.{some_row, place_fits, cycle-ends}
+use Rattle.limits.specs.Limits.{states}
+use Rattle.periodic_next.proofs.simulate_cycle.Goals as goal
+
+pub overflow_sub-result : goal.overflow_sub-result
+overflow_sub-result c =
+    let g = c.args in
+    let q = c.state_count-n.ensures in
+    let d = c.divided-span.ensures ∙ ap (λ (j : ℕ). divided j g.window) q.0 in
+    let m : state_count g.kernel ≤ states = rw q.0 at q.1 in
+    omega (
+      arith,
+      some_row g.kernel g.window g.events g.count g.amounts.now c.requires.0 c.requires.1 m g.values.now
+          c.requires.2 c.requires.3 c.requires.4 d c.report_of-report.ensures c.simulate.ensures.result_value,
+    )
+
+pub overflow_mul-result : goal.overflow_mul-result
+overflow_mul-result c =
+    let g = c.args in
+    let q = c.state_count-n.ensures in
+    let d = c.divided-span.ensures ∙ ap (λ (j : ℕ). divided j g.window) q.0 in
+    let m : state_count g.kernel ≤ states = rw q.0 at q.1 in
+    rw q.0 (omega (
+      arith,
+      place_fits g.kernel g.window g.events g.count g.amounts.now c.requires.0 c.requires.1 m
+          g.values.now c.requires.2 c.requires.3 c.requires.4 d c.report_of-report.ensures c.simulate.ensures.result_value,
+    ))
+
+pub returns : goal.returns
+returns c =
+    let g = c.args in
+    let q = c.state_count-n.ensures in
+    let d = c.divided-span.ensures ∙ ap (λ (j : ℕ). divided j g.window) q.0 in
+    let m : state_count g.kernel ≤ states = rw q.0 at q.1 in
+    rw q.0 (cycle-ends g.kernel g.window g.events g.count g.amounts.now c.requires.0 c.requires.1 m g.values.now
+    c.requires.2 c.requires.3 c.requires.4 d c.report_of-report.ensures c.simulate.ensures.result_value
+    c.simulate.ensures.values_after)
