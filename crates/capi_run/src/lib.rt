@@ -1,5 +1,6 @@
 // A run of events that are laid out as words, six to an event.
 #![tactic(auto)]
+
 ghost use Rattle.std.specs.Prelude.{◌≡◌, length};
 ghost use Rattle.linear_pk.specs.LinearPk.{state_count};
 ghost use Rattle.events_layout.specs.Layout.{events_of};

@@ -1,5 +1,6 @@
 // The closed cycle of a list that was folded and prepared: the candidate, its acceptance, the answers written.
 #![tactic(auto)]
+
 ghost use Rattle.std.specs.Prelude.{◌&&◌, ◌≤◌, leb, length};
 ghost use Rattle.limits.specs.Limits.{most_events};
 ghost use Rattle.events.specs.Packed.{packed};

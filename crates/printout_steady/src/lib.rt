@@ -1,5 +1,6 @@
 // The bytes of a closed cycle's printout, into lent cells.
 #![tactic(auto)]
+
 ghost use Rattle.std.specs.Prelude.{◌≡◌, ◌+◌, ◌*◌, ◌≤◌, length, take};
 ghost use Rattle.limits.specs.Limits.{states};
 ghost use Rattle.printout.specs.Cells.{Wrote, printed, printed_length};

@@ -1,5 +1,6 @@
 // The run of a sheet: its bytes in, the bytes of its printout out.
 #![tactic(auto)]
+
 ghost use Rattle.std.specs.Prelude.{◌≡◌, cond, ◌*◌, ◌/◌, leb, length};
 ghost use Rattle.limits.specs.Limits.{read_amounts};
 ghost use Rattle.refusal.specs.Numbers.{reply_number};
