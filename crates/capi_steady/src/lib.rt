@@ -1,5 +1,6 @@
 // The closed cycle of events that are laid out as words, six to an event, for the C interface.
 #![tactic(auto)]
+
 ghost use Rattle.std.specs.Prelude.{◌≡◌, length};
 ghost use Rattle.cycle.specs.Closed.{steady_report_of, answer_at_exit};
 ghost use Rattle.periodic_acceptance.specs.Entry.{steady_room, steady_reply};

@@ -109,7 +109,7 @@ pub fn whole_periods(
             time,
             target,
             rate,
-            left % period,
+            binary64_remainder::remainder(left, period),
             reals,
             words,
             at + 1,

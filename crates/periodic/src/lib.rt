@@ -1,5 +1,6 @@
 // `periodic_steady_state`: the closed cycle of a list, from the tests ahead of it to the amounts, the residuals and the greatest scaled one.
 #![tactic(auto)]
+
 ghost use Rattle.std.specs.Prelude.{◌≡◌, ◌&&◌, ◌≤◌, leb, length};
 ghost use Rattle.limits.specs.Limits.{states, most_cycle_events};
 ghost use Rattle.linear_pk.specs.LinearPk.{state_count};

@@ -1,5 +1,6 @@
 // The closed cycle of a kernel and the other bodies of a sheet, and its printout.
 #![tactic(auto)]
+
 ghost use Rattle.std.specs.Prelude.{◌≡◌, ◌/◌, length};
 ghost use Rattle.refusal.specs.Result.{done};
 ghost use Rattle.linear_pk.specs.LinearPk.{sound, state_count};

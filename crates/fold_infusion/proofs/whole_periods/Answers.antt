@@ -8,7 +8,7 @@ use Rattle.fold_infusion.proofs.whole_periods.Goals as goal
 pub returns-then-periods : goal.returns-then-periods
 unfolding of_bits
 returns-then-periods c =
-    append-same _ _ _ (append-two _ _ _ (append-put _ _ _ c.put.ensures) c.parts.ensures)
+    append-same _ _ _ (append-two _ _ _ (append-put _ _ _ c.put.ensures) (rw c.remainder.ensures at c.parts.ensures))
     (wholes_some _ _ _ _ _ _ c.if-periods.true) 3 (omega arith)
 
 pub returns : goal.returns
