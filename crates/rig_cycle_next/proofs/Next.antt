@@ -136,7 +136,7 @@ module _ (k : LinearPk) (w ss es : List ℕ) (h : sound k ≡ done k) (few : eve
       let e = facts.ends s.amounts yields accepts in
       let p = (kernel-run k h (divided n (sheet_window w)) [] yields.folded goes.prepared s.amounts goes.passes).rows in
       let r = subst (λ (o : Outcome). T (all (λ (r : Row). amounts_pass n r.amounts) (rows_left o))) accepts.reaches p in
-      let l = e.0.End-row in
+      let l = e.0.end_row in
       ap length (e.1 ∙ sym l.final) ∙ width n l.last (last-passes (λ (r : Row). amounts_pass n r.amounts) l.ahead l.last
       (subst (λ (rs : List Row). T (all (λ (r : Row). amounts_pass n r.amounts) rs)) l.whole r))
     where

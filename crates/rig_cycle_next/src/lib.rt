@@ -1,5 +1,6 @@
 // The run of one more cycle from the amounts of a closed one, and its printout.
 #![tactic(auto)]
+
 ghost use Rattle.std.specs.Prelude.{◌≡◌, ◌+◌, ◌/◌, ◌≤◌, length, take, drop};
 ghost use Rattle.limits.specs.Limits.{cycle_rows, cycle_values};
 ghost use Rattle.refusal.specs.Result.{done};

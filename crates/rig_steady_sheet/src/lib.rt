@@ -1,5 +1,6 @@
 // The closed cycle of a sheet: its bytes in, the bytes of its printout out.
 #![tactic(auto)]
+
 ghost use Rattle.std.specs.Prelude.{◌≡◌};
 ghost use Rattle.refusal.specs.Numbers.{reply_number};
 ghost use Rattle.printout.specs.Cells.{printed, printed_length};
