@@ -1,5 +1,6 @@
 // The C interface: doubles, lent slices and 01's numbers. include/linear_pk.h says each function's contract in plain words.
 #![tactic(auto)]
+
 mod cycles;
 mod run;
 mod sheets;
