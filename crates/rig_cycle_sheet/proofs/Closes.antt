@@ -1,6 +1,6 @@
 -- A sheet whose closed cycle is refused has that refusal, and one that is solved closes. The most bytes of a printout.
 use mathlib.Core.Path.{◌≡◌, refl, sym, ap, ◌∙◌, subst}
-use mathlib.Core.Bool.{Bool, true}
+use mathlib.Core.Bool.{Bool, true, false}
 use mathlib.Core.List.{List, [], ◌∷◌}
 use Prim.Native.Nat.{ℕ, suc, ◌≤◌, ◌<◌}
 use native.Mathlib.Omega.{arith}
@@ -42,6 +42,7 @@ use Rattle.rig_cycle_sheet.specs.CycleSheet.{next_sheet, next_of_bytes, EveryNex
 
 holds : (b : Bool) → T b → b ≡ true
 holds true h = refl
+holds false h = absurd h
 
 -- ---- the verdict, state by state
 module _ (tol : SteadyStateTolerance) where

@@ -1,5 +1,6 @@
 // One more cycle from the amounts of a sheet's closed one: its bytes in, the bytes of its printout out.
 #![tactic(auto)]
+
 ghost use Rattle.std.specs.Prelude.{◌≡◌, ◌/◌, ◌≤◌, length};
 ghost use Rattle.limits.specs.Limits.{cycle_rows, cycle_values};
 ghost use Rattle.refusal.specs.Numbers.{reply_number};

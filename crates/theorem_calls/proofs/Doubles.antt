@@ -28,7 +28,7 @@ time_fits_lem (Bolus t i a) vs p = passes (fits binary64 t) p.1.1.1.1.0.1
 time_fits_lem (Infusion t i a d) vs p = passes (fits binary64 t) p.1.1.1.1.0.1
 time_fits_lem (Reset t i v o c) vs p = passes (fits binary64 t) p.1.1.1.1.0.1
 
-front_fits : (k : ℕ) (es : List Event) (us : List Val) → shadow (each Event owned.own es us) → T (all (λ (e : Event). fits binary64 (time e)) (take k es))
+front_fits : (k : ℕ) (es : List Event) (us : List Val) → shadow (each Event owned.own_val es us) → T (all (λ (e : Event). fits binary64 (time e)) (take k es))
 front_fits zero es us p = tt
 front_fits (suc k) [] us p = tt
 front_fits (suc k) (e ∷ es) [] p = absurd p

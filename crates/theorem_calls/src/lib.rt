@@ -1,6 +1,7 @@
 // Demand 3 stated of the code: what a call of the library's entries, or of the entry that `rig-steady` calls, ensures is the claim. That
 // the times of a call are doubles is given by their type.
 #![tactic(auto)]
+
 ghost use Rattle.std.specs.Prelude.{◌≡◌};
 ghost use Rattle.simulation_report.specs.Replies.{run_reply};
 ghost use Rattle.theorem_runs_and_cycles.specs.Simulate.{SameRows};
