@@ -1,4 +1,4 @@
--- 01, "Amounts and concentrations": the solution of dA/dt = K-as-A + R over an interval with constant input rates R, for a matrix of rates K.
+-- 01, "Amounts and concentrations": the solution of dA/dt = K·A + R over an interval with constant input rates R, for a matrix of rates K.
 -- The exponential of a duration is in `linear_pk_propagator/specs/Propagator.antt`, an amount after it in `linear_pk_propagator/specs/Amounts.antt`.
 use Rattle.std.specs.Prelude.{Bool, true, false, List, ℕ, Float}
 use Rattle.std.specs.Float.{binary64}

@@ -1,5 +1,5 @@
 -- 01, "Amounts and concentrations": the rates of the mammillary model (one to three compartments, an optional depot), those of the compartment
--- equations dA/dt = K-as-A + R (Gibaldi and Perrier, Pharmacokinetics, 1982, ch. 2). Absorption is given by whether there is a depot, and its rate.
+-- equations dA/dt = K·A + R (Gibaldi and Perrier, Pharmacokinetics, 1982, ch. 2). Absorption is given by whether there is a depot, and its rate.
 use Rattle.std.specs.Prelude.{Bool, ◌&&◌, cond, List, ℕ, zero, suc, ◌-◌, ◌/◌, ◌%◌, eqb, ltb, length, Float}
 use Rattle.std.specs.Float.{binary64}
 use Rattle.std.specs.Float.Ieee.{sub, div, neg}

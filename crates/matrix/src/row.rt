@@ -5,7 +5,7 @@ ghost use Rattle.matrix.specs.Arrays.{scaled_sum, row_quotient, row_sum_of, row_
 
 use limits::BLOCK;
 
-// sum + typeof.x.row
+// sum + x·row
 pub fn plus_scaled(sum: [f64; BLOCK], x: f64, row: [f64; BLOCK]) -> [f64; BLOCK]
     ensures { result ≡ scaled_sum sum x row }
 {
