@@ -73,6 +73,8 @@ def own(root):
                     in_record = depth
                 continue
             of = DEFINED.match(line)
+            if of and re.match(r".*:\s+goal\.", line):
+                continue
             if of and not of.group(2):
                 name = of.group(1)
                 if of_function and (name.startswith(("invariant-", "decreases-")) or MADE.match(name)):

@@ -12,4 +12,4 @@ pub use cells::{CELL, TEXT, has_text, kept};
 pub use line::{Line, SHEET, read};
 pub use parts::{count, doubles, made, window};
 pub use tally::{Outcome, Tally};
-pub use text::{ROOM, end, is_comment, numbers, read_full, room};
+pub use text::{ROOM, end, is_comment, numbers, room};

@@ -1,9 +1,7 @@
-// The bytes of standard input, and a line's numbers, one space between two.
-ghost use Rattle.std.specs.Prelude.{◌≡◌, ◌≤◌, length, take};
-ghost use Rattle.std.specs.Io.KnownBytes.{Consumes};
+// A line's numbers, one space between two.
+ghost use Rattle.std.specs.Prelude.{◌≡◌, ◌≤◌, length};
 
 use replay_numbers::Parsed;
-use std::io::Read;
 
 // The most numbers that are kept of a line.
 pub const ROOM: usize = 256;
@@ -60,22 +58,4 @@ pub fn room() -> [u8; INPUT]
     ensures { 262144 ≡ length result }
 {
     [0; INPUT]
-}
-
-// Reads until `bytes` is full, the input ends or a read fails; how many bytes stand at the start of `bytes`.
-pub fn read_full<R: Read>(input: &mut R, bytes: &mut [u8]) -> usize
-    ensures within { result ≤ length bytes.new }
-    ensures taken { Consumes (R.remaining input.old) (R.remaining input.new) (take result bytes.new) }
-{
-    let mut done = 0;
-    while done < bytes.len() {
-        let Ok(n) = input.read(&mut bytes[done..]) else {
-            return done;
-        };
-        if n == 0 {
-            return done;
-        }
-        done += n;
-    }
-    done
 }

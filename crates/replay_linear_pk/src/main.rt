@@ -22,7 +22,7 @@ fn replayed(rt: &impl Print, text: &[u8]) -> Tally {
 
 fn main(rt: HostRuntime) {
     let mut input = replay_answers::room();
-    let n = replay_answers::read_full(&mut rt.stdin(), &mut input);
+    let n = rig_streams::read_full(&mut rt.stdin(), &mut input);
     let tally = replayed(&rt, &input[..n]);
     tally.print_entry(&rt, 1, b"new");
     tally.print_entry(&rt, 2, b"advance");

@@ -1,14 +1,14 @@
 // Reads a sheet on standard input to its end and writes the printout of its closed cycle.
 #![tactic(auto)]
 
-ghost use Rattle.std.specs.Prelude.{◌+◌, ◌≡◌, ◌≤◌, true, length, take};
-ghost use Rattle.std.specs.Io.KnownBytes.{Appends, Consumes};
+ghost use Rattle.std.specs.Prelude.{◌+◌, ◌≡◌, true, length};
+ghost use Rattle.std.specs.Io.KnownBytes.{Appends};
 ghost use Rattle.limits.specs.Limits.{sheet_bytes};
 ghost use Rattle.rig_steady_sheet.specs.SteadySheet.{steady_printout_of_bytes, most_steady_bytes};
 
 use limits::SHEET_BYTES;
 use rig_steady_sheet::STEADY_BYTES;
-use std::io::{Read, Write};
+use std::io::Write;
 
 // Room for a sheet and one byte more: a longer file is as unfit as this much of it.
 fn input() -> [u8; SHEET_BYTES + 1]
@@ -24,24 +24,6 @@ fn output() -> [u8; STEADY_BYTES]
     [0; STEADY_BYTES]
 }
 
-// Reads until `bytes` is full, the input ends or a read fails; how many bytes stand at the start of `bytes`.
-fn read_full<R: Read>(input: &mut R, bytes: &mut [u8]) -> usize
-    ensures within { result ≤ length bytes.new }
-    ensures taken { Consumes (R.remaining input.old) (R.remaining input.new) (take result bytes.new) }
-{
-    let mut done = 0;
-    while done < bytes.len() {
-        let Ok(n) = input.read(&mut bytes[done..]) else {
-            return done;
-        };
-        if n == 0 {
-            return done;
-        }
-        done += n;
-    }
-    done
-}
-
 // Solves the sheet's cycle and writes its printout; whether all of it was written.
 fn run<W: Write>(sheet: &[u8], text: &mut [u8], out: &mut W) -> bool
     ensures { result ≡ true → length text.old ≡ most_steady_bytes →
@@ -53,7 +35,7 @@ fn run<W: Write>(sheet: &[u8], text: &mut [u8], out: &mut W) -> bool
 
 fn main(rt: HostRuntime) {
     let mut bytes = input();
-    let n = read_full(&mut rt.stdin(), &mut bytes);
+    let n = rig_streams::read_full(&mut rt.stdin(), &mut bytes);
     let mut text = output();
     let written = run(&bytes[..n], &mut text, &mut rt.stdout());
     if !written {
