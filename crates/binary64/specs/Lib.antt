@@ -1,4 +1,3 @@
 pub mod Doubles
 pub mod Lists
 pub mod Sort
-pub mod Tests

@@ -6,31 +6,19 @@ use native.Mathlib.Nat.{lt_irrefl, mul_comm, mul_assoc, mul_right_comm, mul-pos,
 use native.Mathlib.Omega.{arith}
 use mathlib.Core.Bool.{Bool, true, false, not, cond}
 use lib.IntN.{pos}
-use lib.Dec.{T, leb, ltb, eqb, lt→ltb, ltb→lt, leb→le, le→leb, eqb→eq}
+use lib.Dec.{T, not_T, leb, ltb, eqb, lt→ltb, ltb→lt, leb→le, le→leb, eqb→eq}
 use lib.Pow.{pow-add, pow_pos, pow-lt, pow_mono, shl_lt, shl_exact, mod-mod-pow}
 use lib.Ieee.{Float, nan, inf, fin, binary64, low, emax, up, down, odd, rem, mul, round, units, of_int, of_bits, to_bits, of_fields, neg, div, fits, is_nan}
 use lib.Ieee.Fits.{down_pos, up_pos}
 use lib.Ieee.Exact.{HasValue, odd_sign}
 use lib.Ieee.Scale.{round_same, finite}
-use lib.Ieee.Bits.{of_bits-to_bits}
+use lib.Ieee.Bits.{of_bits-to_bits, is_true, is_false}
+use Rattle.std.proofs.lemmas.Bool.{cond-true, cond-false}
 use lib.Bits.{and_mask}
 use Rattle.binary64.proofs.Magnitudes.{finite64}
 use lib.Ieee.Positive.{first_pos, positive_of_value, mul_at}
 use lib.Ieee.Back.{round_whole}
 use Rattle.binary64_remainder.specs.Patterns.{digits_of, shift_of, units_of}
-
--- ---- conditions
-cond_yes : {X : Type 0} (b : Bool) (x y : X) → T b → cond b x y ≡ x
-cond_yes true x y t = refl
-cond_yes false x y t = absurd t
-
-cond_no : {X : Type 0} (b : Bool) (x y : X) → T (not b) → cond b x y ≡ y
-cond_no true x y t = absurd t
-cond_no false x y t = refl
-
-not_true : (b : Bool) → (T b → ⊥) → T (not b)
-not_true true f = f tt
-not_true false f = tt
 
 -- ---- a remainder of multiples
 pub scale_mod : (a b c : ℕ) → 0 < b → 0 < c → a * c % (b * c) ≡ a % b * c
@@ -48,7 +36,7 @@ common s a b c u v C V h k =
     ∙ scale_mod u v c V C)
 
 not_zero : (n : ℕ) → 0 < n → T (not (eqb n 0))
-not_zero n h = not_true (eqb n 0) (λ t. lt_irrefl 0 (subst (λ (x : ℕ). 0 < x) (eqb→eq n 0 t) h))
+not_zero n h = not_T (eqb n 0) (λ t. lt_irrefl 0 (subst (λ (x : ℕ). 0 < x) (eqb→eq n 0 t) h))
 
 pub rem_value : (x y : Float) (s t : Bool) (u v : ℕ) → HasValue x s u (2 ^ 1074) → HasValue y t v (2 ^ 1074) → 0 < v
     → rem binary64 x y ≡ round binary64 s (u % v) (2 ^ 1074)
@@ -61,7 +49,7 @@ rem_value (fin r m e) (fin w n d) s t u v h k V =
     let a = m * up e * down d in
     let b = n * up d * down e in
     let c = down e * down d in
-    cond_no (eqb n 0) nan (round binary64 r (a % b) c) (not_zero n (first_pos n (up d) (first_pos (n * up d) (2 ^ 1074) (subst (λ (x : ℕ). 0 < x) (sym k.1) (mul-pos V (down_pos d))))))
+    cond-false (eqb n 0) nan (round binary64 r (a % b) c) (is_false (eqb n 0) (not_zero n (first_pos n (up d) (first_pos (n * up d) (2 ^ 1074) (subst (λ (x : ℕ). 0 < x) (sym k.1) (mul-pos V (down_pos d)))))))
     ∙ ap (λ (z : Bool). round binary64 z (a % b) c) h.0
     ∙ common s a b c u v (mul-pos (down_pos e) (down_pos d)) V
     (mul_right_comm (m * up e) (down d) (2 ^ 1074) ∙ ap (λ (x : ℕ). x * down d) h.1 ∙ mul_assoc u (down e) (down d))
@@ -70,7 +58,7 @@ rem_value (fin r m e) (fin w n d) s t u v h k V =
 -- ---- the units of a pattern
 pub units_low : (p : ℕ) → p < 2 ^ 52 → units_of p ≡ p
 units_low p h =
-    ap (λ (x : ℕ). x * 2 ^ shift_of p) (cond_yes (ltb p (2 ^ 52)) p (2 ^ 52 + p % 2 ^ 52) (lt→ltb p (2 ^ 52) h))
+    ap (λ (x : ℕ). x * 2 ^ shift_of p) (cond-true (ltb p (2 ^ 52)) p (2 ^ 52 + p % 2 ^ 52) (is_true (ltb p (2 ^ 52)) (lt→ltb p (2 ^ 52) h)))
     ∙ ap (λ (x : ℕ). p * 2 ^ x) (none p h)
     ∙ mul-one p
   where
@@ -78,7 +66,9 @@ units_low p h =
     none p h = omega arith
 
 pub digits_high : (p : ℕ) → 2 ^ 52 ≤ p → digits_of p ≡ 2 ^ 52 + p % 2 ^ 52
-digits_high p h = cond_no (ltb p (2 ^ 52)) p (2 ^ 52 + p % 2 ^ 52) (not_true (ltb p (2 ^ 52)) (λ t. lt_irrefl p (lt_of_lt_of_le (ltb→lt p (2 ^ 52) t) h)))
+digits_high p h =
+    cond-false (ltb p (2 ^ 52)) p (2 ^ 52 + p % 2 ^ 52)
+    (is_false (ltb p (2 ^ 52)) (not_T (ltb p (2 ^ 52)) (λ t. lt_irrefl p (lt_of_lt_of_le (ltb→lt p (2 ^ 52) t) h))))
 
 pub units_high : (p x : ℕ) → p / 2 ^ 52 ≡ suc x → units_of p ≡ (2 ^ 52 + p % 2 ^ 52) * 2 ^ x
 units_high p x e =
@@ -114,7 +104,8 @@ fields s p h = go (p / 2 ^ 52) refl
     go (suc x) e =
         let v = odd 53 s (2 ^ 52 + t) x 1074 in
         subst (λ (z : Float). HasValue z s (units_of p) (2 ^ 1074))
-        (sym (cond_no (eqb (suc x) 2047) (cond (eqb t 0) (inf s) nan) v (not_true (eqb (suc x) 2047) (λ q. apart (suc x) (below_top p (suc x) h e) (eqb→eq (suc x) 2047 q)))))
+        (sym (cond-false (eqb (suc x) 2047) (cond (eqb t 0) (inf s) nan) v
+        (is_false (eqb (suc x) 2047) (not_T (eqb (suc x) 2047) (λ q. apart (suc x) (below_top p (suc x) h e) (eqb→eq (suc x) 2047 q))))))
         (subst (λ (u : ℕ). HasValue v s u (2 ^ 1074)) (sym (units_high p x e)) (odd_sign 53 s (2 ^ 52 + t) x 1074))
 
 pub pattern : (b : ℕ) → b % 2 ^ 63 < 0x7ff0_0000_0000_0000 → HasValue (of_bits binary64 b) (leb (2 ^ 63) b) (units_of (b % 2 ^ 63)) (2 ^ 1074)
@@ -127,12 +118,8 @@ pattern b h =
 plain : (p : ℕ) → p < 0x7ff0_0000_0000_0000 → p < 0x8000_0000_0000_0000
 plain p h = omega arith
 
-is_false : (b : Bool) → (T b → ⊥) → b ≡ false
-is_false true f = absurd (f tt)
-is_false false f = refl
-
 pub unsigned : (p : ℕ) → p < 2 ^ 63 → leb (2 ^ 63) p ≡ false
-unsigned p h = is_false (leb (2 ^ 63) p) (λ t. lt_irrefl p (lt_of_lt_of_le h (leb→le (2 ^ 63) p t)))
+unsigned p h = is_false (leb (2 ^ 63) p) (not_T (leb (2 ^ 63) p) (λ t. lt_irrefl p (lt_of_lt_of_le h (leb→le (2 ^ 63) p t))))
 
 pub pattern_value : (p u : ℕ) → p < 0x7ff0_0000_0000_0000 → units_of p ≡ u → HasValue (of_bits binary64 p) false u (2 ^ 1074)
 pattern_value p u h e =

@@ -44,16 +44,22 @@ pub extern "C" fn linear_pk_normalize_periodic_cycle(
         events: event_budget,
         outputs: output_budget,
     };
-    let told = capi_fold::fold_words(
+    match capi_fold::fold_words(
         capi_kernel_cells::kernel_at(kernel),
         window,
         events,
         samples,
         folded,
-    );
-    *count = told.count;
-    let reply = told.reply;
-    refusal::number(reply)
+    ) {
+        Ok(listed) => {
+            *count = listed;
+            0
+        }
+        Err(refusal) => {
+            *count = 0;
+            refusal::number(Err(refusal))
+        }
+    }
 }
 
 #[unsafe(no_mangle)]
@@ -99,7 +105,7 @@ pub extern "C" fn linear_pk_periodic_steady_state(
         outputs: output_budget,
     };
     let tolerance = SteadyStateTolerance { absolute, relative };
-    let told = capi_steady::steady_words(
+    match capi_steady::steady_words(
         capi_kernel_cells::kernel_at(kernel),
         window,
         events,
@@ -107,9 +113,16 @@ pub extern "C" fn linear_pk_periodic_steady_state(
         tolerance,
         amounts,
         residual,
-    );
-    *time = told.time;
-    *maximum = told.maximum;
-    let reply = told.reply;
-    refusal::number(reply)
+    ) {
+        Ok(greatest) => {
+            *time = 0.0;
+            *maximum = greatest;
+            0
+        }
+        Err(stop) => {
+            *time = stop.time;
+            *maximum = 0.0;
+            refusal::number(Err(stop.refusal))
+        }
+    }
 }

@@ -3,7 +3,7 @@ use Rattle.std.specs.Prelude.{List, ℕ, ◌*◌, leb, length, Float}
 use Rattle.limits.specs.Limits.{event_size}
 use Rattle.refusal.specs.Result.{Result, done, and_then, unless, slice_at_exit}
 use Rattle.linear_pk.specs.declared.kernel.LinearPk.{LinearPk}
-use Rattle.events_layout.specs.Layout.{event_count, events_fit, events_of}
+use Rattle.events_layout.specs.Layout.{events_fit, events_of}
 use Rattle.events_words.specs.Words.{list_words}
 use Rattle.protocol.specs.declared.Event.{Event}
 use Rattle.protocol.specs.declared.Window.{Window}
@@ -14,7 +14,11 @@ unfoldable pub fold_words : LinearPk → Window → List ℕ → List Float → 
 unfolding fold_entry
 fold_words k w ws ss room =
     and_then (unless (events_fit ws) 40 ws)
-    (λ ws. and_then (fold_entry k w ss (events_of ws) (event_count ws)) (λ es. unless (leb (event_size * length es) room) 4 es))
+    (λ ws. and_then (fold_entry k w ss (events_of ws)) (λ es. unless (leb (event_size * length es) room) 4 es))
+
+-- how many events are listed
+abbrev pub count_of : Result (List Event) → Result ℕ
+count_of o = and_then o (λ es. done (length es))
 
 -- the folded list's words from the front on, the cells behind them as they were; all as they were at a refusal
 unfoldable pub cells_of : Result (List Event) → List ℕ → List ℕ

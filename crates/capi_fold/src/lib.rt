@@ -1,89 +1,51 @@
 // The folded cycle over words, six to an event, for the C interface.
 #![tactic(auto)]
 
-ghost use Rattle.std.specs.Prelude.{◌≡◌, [], map, ◌≤◌, ◌*◌, length, take};
-ghost use Rattle.limits.specs.Limits.{most_events, event_size};
-ghost use Rattle.refusal.specs.Numbers.{reply_number};
-ghost use Rattle.refusal.specs.Result.{number, value_or};
+ghost use Rattle.std.specs.Prelude.{◌≡◌, ◌≤◌, ◌*◌, length};
+ghost use Rattle.limits.specs.Limits.{event_size};
+ghost use Rattle.refusal.specs.Numbers.{outcome_of};
 ghost use Rattle.printout.specs.Cells.{Wrote};
 ghost use Rattle.events_words.specs.Words.{list_words};
-ghost use Rattle.fold_list.specs.Answers.{event_in};
-ghost use Rattle.capi_fold.specs.Words.{fold_words, cells_of};
+ghost use Rattle.capi_fold.specs.Words.{fold_words, count_of, cells_of};
 
-use fold_list::Place;
-use limits::{EVENT_SIZE, EVENTS};
+use limits::EVENT_SIZE;
 use linear_pk::LinearPk;
-use protocol::Window;
-use refusal::{Refusal, Reply};
+use protocol::{Event, Window};
+use refusal::Refusal;
 
-// Whether the list is folded, and how many events it has.
-#[derive(Clone, Copy)]
-pub struct FoldedWords {
-    pub reply: Reply,
-    pub count: usize,
-}
-
-// The words of the first count events, from the front on.
-fn put_list(list: [Place; EVENTS], count: usize, out: &mut [u64]) -> usize
-    requires { (count ≤ most_events) × (event_size * count ≤ length out.old) }
-    ensures { Wrote (list_words (take count (map event_in list))) 0 out.old result out.new }
+// The words of the events, from the front on.
+fn put_list(list: &[Event], out: &mut [u64]) -> usize
+    requires { event_size * length list.now ≤ length out.old }
+    ensures { Wrote (list_words list.now) 0 out.old result out.new }
 {
-    let mut at = 0usize;
-    for i in 0..count {
-        let listed = list[i];
-        let event = listed.event;
-        at = events_words::put_event(out, at, event);
+    let mut at = 0;
+    for event in list {
+        at = events_words::put_event(out, at, *event);
     }
     at
 }
 
-// The list of a cycle, from words to words: 40, then the library's numbers, last 4.
+// The list of a cycle, from words to words, and how many events it has: 40, then the library's numbers, last 4.
 pub fn fold_words(
     kernel: LinearPk,
     window: Window,
     events: &[u64],
     samples: &[f64],
     folded: &mut [u64],
-) -> FoldedWords
-    ensures reply_value { reply_number result.reply ≡ number (fold_words kernel window events.now samples.now (length folded.old)) }
-    ensures count_value { result.count ≡ length (value_or (fold_words kernel window events.now samples.now (length folded.old)) []) }
+) -> Result<usize, Refusal>
+    ensures count_value { outcome_of result ≡ count_of (fold_words kernel window events.now samples.now (length folded.old)) }
     ensures folded_after { folded.new ≡ cells_of (fold_words kernel window events.now samples.now
         (length folded.old)) folded.old }
 {
     if !events_layout::events_fit(events) {
-        return FoldedWords {
-            reply: Reply::Refused(Refusal::Layout),
-            count: 0,
-        };
+        return Err(Refusal::Layout);
     }
-    let list = events_layout::events_of(events);
-    let cycle = fold::normalize_periodic_cycle(
-        kernel,
-        window,
-        list,
-        events.len() / EVENT_SIZE,
-        samples,
-    );
-    let reply = cycle.reply;
-    match reply {
-        Reply::Refused(refusal) => FoldedWords {
-            reply: Reply::Refused(refusal),
-            count: 0,
-        },
-        Reply::Done => {
-            let count = cycle.count;
-            if EVENT_SIZE * count > folded.len() {
-                return FoldedWords {
-                    reply: Reply::Refused(Refusal::ShortSlice),
-                    count: 0,
-                };
-            }
-            let places = cycle.events;
-            put_list(places, count, folded);
-            FoldedWords {
-                reply: Reply::Done,
-                count,
-            }
-        }
+    let given = events_layout::events_of(events);
+    let list = fold::normalize_periodic_cycle(kernel, window, given.as_slice(), samples)?;
+    let count = list.len();
+    if EVENT_SIZE * count > folded.len() {
+        return Err(Refusal::ShortSlice);
     }
+    put_list(list.as_slice(), folded);
+    Ok(count)
 }

@@ -1,4 +1,5 @@
 -- The cells of `new` and `bind` case by case.
+use Rattle.std.specs.Prelude.{Option}
 use mathlib.Core.Path.{◌≡◌}
 use mathlib.Core.List.{List}
 use Prim.Native.Nat.{ℕ}
@@ -9,11 +10,10 @@ use Rattle.refusal.specs.Result.{refused, done, unless}
 use Rattle.matrix.specs.Matrix.{tabulate}
 use Rattle.linear_pk.specs.LinearPk.{new, bind}
 use Rattle.linear_pk.specs.declared.kernel.LinearPk.{LinearPk}
-use Rattle.linear_pk_values.specs.declared.Absorption.{Absorption}
 use Rattle.linear_pk.specs.declared.bind.BoundLinearPk.{BoundLinearPk}
 use Rattle.capi_kernel.specs.Cells.{kernel_cell, bound_cell, new_cells, bind_cells}
 
-module _ (cl : Float) (vs qs : List Float) (a : Absorption) (room : ℕ) where
+module _ (cl : Float) (vs qs : List Float) (a : Option Float) (room : ℕ) where
   pub new-refused : {n : ℕ} → new cl vs qs a ≡ refused n → new_cells cl vs qs a room ≡ refused n
   unfolding new_cells
   new-refused h = rw h

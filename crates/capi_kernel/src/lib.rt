@@ -7,7 +7,7 @@ ghost use Rattle.capi_kernel.specs.Cells.{absorption_of, kernel_at, new_cells, b
 
 use limits::{BOUND_CELLS, KERNEL_CELLS};
 use linear_pk::LinearPk;
-use refusal::{Refusal, Reply};
+use refusal::Refusal;
 
 // The cells of a new kernel; the number of its refusal, 0 for none.
 pub fn new(
@@ -23,20 +23,17 @@ pub fn new(
     ensures kernel_after { kernel.new ≡ slice_at_exit (new_cells clearance volumes.now exchange.now
         (absorption_of depot absorption) (length kernel.old)) kernel.old }
 {
-    let made = LinearPk::new(
+    match LinearPk::new(
         clearance,
         volumes,
         exchange,
         capi_kernel_cells::absorption_of(depot, absorption),
-    );
-    let reply = made.reply;
-    match reply {
-        Reply::Refused(refusal) => refusal::number(Reply::Refused(refusal)),
-        Reply::Done => {
+    ) {
+        Err(refusal) => refusal::number(Err(refusal)),
+        Ok(value) => {
             if kernel.len() < KERNEL_CELLS {
-                return refusal::number(Reply::Refused(Refusal::ShortSlice));
+                return refusal::number(Err(Refusal::ShortSlice));
             }
-            let value = made.kernel;
             let cells = capi_kernel_cells::kernel_cells(value);
             linear_pk_interval::lay(&cells, kernel);
             0
@@ -50,15 +47,12 @@ pub fn bind(kernel: &[f64], initial: &[f64], bound: &mut [f64]) -> u64
     ensures bound_after { bound.new ≡ slice_at_exit (bind_cells (kernel_at kernel.now) initial.now
         (length bound.old)) bound.old }
 {
-    let made = capi_kernel_cells::kernel_at(kernel).bind(initial);
-    let reply = made.reply;
-    match reply {
-        Reply::Refused(refusal) => refusal::number(Reply::Refused(refusal)),
-        Reply::Done => {
+    match capi_kernel_cells::kernel_at(kernel).bind(initial) {
+        Err(refusal) => refusal::number(Err(refusal)),
+        Ok(value) => {
             if bound.len() < BOUND_CELLS {
-                return refusal::number(Reply::Refused(Refusal::ShortSlice));
+                return refusal::number(Err(Refusal::ShortSlice));
             }
-            let value = made.bound;
             let cells = capi_kernel_cells::bound_cells(value);
             linear_pk_interval::lay(&cells, bound);
             0

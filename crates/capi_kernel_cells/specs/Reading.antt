@@ -1,5 +1,5 @@
 -- How a kernel is laid out as doubles for C: the number of volumes, the depot as 0 or 1, the volumes, then the matrix of rates row by row.
-use Rattle.std.specs.Prelude.{Bool, true, false, ◌&&◌, ◌||◌, cond, List, ℕ, zero, suc, ◌+◌, leb, pos, length, Float}
+use Rattle.std.specs.Prelude.{Bool, true, false, ◌&&◌, ◌||◌, cond, List, ℕ, zero, suc, ◌+◌, leb, pos, length, Float, Option, Some, None}
 use Rattle.std.specs.Float.{binary64}
 use Rattle.std.specs.Float.Ieee.{eq, of_int}
 use Rattle.limits.specs.Limits.{most_volumes, rate_cells, kernel_cells}
@@ -7,16 +7,14 @@ use Rattle.binary64.specs.Doubles.{plus_zero, one}
 use Rattle.matrix.specs.Matrix.{cell, tabulate}
 use Rattle.linear_pk.specs.LinearPk.{no_kernel}
 use Rattle.linear_pk.specs.declared.kernel.LinearPk.{LinearPk}
-use Rattle.linear_pk_values.specs.declared.Absorption.{Absorption}
-use Rattle.linear_pk_values.specs.declared.Absorption.TheVariants.{Absent, FirstOrder}
 
 -- the rates stand behind the volume count, the depot and the volumes
 abbrev pub first_rate : ℕ
 first_rate = 2 + most_volumes
 
-abbrev pub absorption_of : Bool → Float → Absorption
-absorption_of true k = FirstOrder k
-absorption_of false k = Absent
+abbrev pub absorption_of : Bool → Float → Option Float
+absorption_of true k = Some k
+absorption_of false k = None
 
 -- which of 1 to k a double is; 0 where it is none
 unfoldable pub count_to : ℕ → Float → ℕ

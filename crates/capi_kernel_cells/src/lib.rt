@@ -11,19 +11,15 @@ ghost use Rattle.capi_kernel_cells.specs.Writing.{count_cell, kernel_cell, bound
 
 use limits::{BOUND_CELLS, KERNEL_CELLS, RATE_CELLS, VOLUMES};
 use linear_pk::{BoundLinearPk, LinearPk};
-use linear_pk_values::Absorption;
+use std::array;
 
 // The rates stand behind the volume count, the depot and the volumes.
 const FIRST_RATE: usize = 2 + VOLUMES;
 
-pub fn absorption_of(depot: bool, absorption: f64) -> Absorption
+pub fn absorption_of(depot: bool, absorption: f64) -> Option<f64>
     ensures { result ≡ absorption_of depot absorption }
 {
-    if depot {
-        Absorption::FirstOrder(absorption)
-    } else {
-        Absorption::Absent
-    }
+    depot.then_some(absorption)
 }
 
 // k where x is that number, else the count.
@@ -44,26 +40,12 @@ fn count_at(x: f64) -> usize
     count
 }
 
-fn volumes_at(cells: &[f64]) -> [f64; VOLUMES]
-    requires { kernel_cells ≤ length cells.now }
-    ensures { result ≡ tabulate most_volumes (λ i. cell cells.now (i + 2)) }
+// As many cells from a place on as the array has.
+fn cells_from<const N: usize>(cells: &[f64], from: usize) -> [f64; N]
+    requires { from + N ≤ length cells.now }
+    ensures { result ≡ tabulate N (λ i. cell cells.now (i + from)) }
 {
-    let mut list = [0.0f64; VOLUMES];
-    for i in 0..VOLUMES {
-        list[i] = cells[i + 2];
-    }
-    list
-}
-
-fn matrix_at(cells: &[f64]) -> [f64; RATE_CELLS]
-    requires { kernel_cells ≤ length cells.now }
-    ensures { result ≡ tabulate rate_cells (λ i. cell cells.now (i + first_rate)) }
-{
-    let mut list = [0.0f64; RATE_CELLS];
-    for i in 0..RATE_CELLS {
-        list[i] = cells[i + FIRST_RATE];
-    }
-    list
+    array::from_fn(|i| cells[i + from])
 }
 
 // The kernel that cells hold; one of no volumes where they hold none.
@@ -78,8 +60,8 @@ pub fn kernel_at(cells: &[f64]) -> LinearPk
         return linear_pk::none();
     }
     let compartments = count_at(cells[0]);
-    let volumes = volumes_at(cells);
-    let matrix = matrix_at(cells);
+    let volumes = cells_from(cells, 2);
+    let matrix = cells_from(cells, FIRST_RATE);
     LinearPk {
         compartments,
         depot: depot == 1.0,
@@ -94,6 +76,7 @@ fn count_cell(n: usize) -> f64
     if n <= VOLUMES { (n as u32) as f64 } else { 0.0 }
 }
 
+#[tactic(auto, unfolding(crate::specs::Writing::kernel_cell))]
 fn kernel_cell(kernel: LinearPk, i: usize) -> f64
     requires { i < kernel_cells }
     ensures { result ≡ kernel_cell kernel i }
@@ -118,13 +101,10 @@ fn kernel_cell(kernel: LinearPk, i: usize) -> f64
 pub fn kernel_cells(kernel: LinearPk) -> [f64; KERNEL_CELLS]
     ensures { result ≡ tabulate kernel_cells (kernel_cell kernel) }
 {
-    let mut cells = [0.0f64; KERNEL_CELLS];
-    for i in 0..KERNEL_CELLS {
-        cells[i] = kernel_cell(kernel, i);
-    }
-    cells
+    array::from_fn(|i| kernel_cell(kernel, i))
 }
 
+#[tactic(auto, unfolding(crate::specs::Writing::bound_cell))]
 fn bound_cell(bound: BoundLinearPk, i: usize) -> f64
     requires { i < bound_cells }
     ensures { result ≡ bound_cell bound i }
@@ -140,9 +120,5 @@ fn bound_cell(bound: BoundLinearPk, i: usize) -> f64
 pub fn bound_cells(bound: BoundLinearPk) -> [f64; BOUND_CELLS]
     ensures { result ≡ tabulate bound_cells (bound_cell bound) }
 {
-    let mut cells = [0.0f64; BOUND_CELLS];
-    for i in 0..BOUND_CELLS {
-        cells[i] = bound_cell(bound, i);
-    }
-    cells
+    array::from_fn(|i| bound_cell(bound, i))
 }

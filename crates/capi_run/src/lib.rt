@@ -9,7 +9,7 @@ ghost use Rattle.protocol.specs.Entry.{report_of, times_at_exit, sides_at_exit, 
 ghost use Rattle.simulation.specs.Entries.{room, reported};
 ghost use Rattle.capi_run.specs.Run.{simulate_words};
 
-use limits::EVENT_SIZE;
+use limits::{EVENT_SIZE, EVENTS};
 use linear_pk::LinearPk;
 use protocol::Window;
 use refusal::Refusal;
@@ -41,9 +41,18 @@ pub fn simulate_words(
     if !events_layout::events_fit(events) {
         return simulation_report::report_of(RunReply::Refused(Refusal::Layout));
     }
+    if events.len() / EVENT_SIZE > EVENTS {
+        return simulation_report::report_of(RunReply::Refused(Refusal::Limit));
+    }
     let list = events_layout::events_of(events);
-    let count = events.len() / EVENT_SIZE;
     simulation_report::report_of(simulation::simulate(
-        kernel, amounts, window, list, count, samples, times, sides, values,
+        kernel,
+        amounts,
+        window,
+        list.as_slice(),
+        samples,
+        times,
+        sides,
+        values,
     ))
 }

@@ -1,20 +1,19 @@
--- The closed cycle of events that are laid out as words is the library's of the array that they are read into.
-use mathlib.Core.Path.{◌≡◌, refl, sym, ◌∙◌}
+-- The closed cycle of events that are laid out as words is the library's of the list that they are read into.
+use mathlib.Core.Path.{◌≡◌, refl, sym, ap, ◌∙◌}
 use mathlib.Core.Bool.{Bool, true, false}
 use mathlib.Core.List.{List}
-use Prim.Native.Nat.{ℕ, ◌≤◌}
+use Prim.Native.Nat.{ℕ, ◌<◌}
 use native.Mathlib.Omega.{arith}
-use lib.Dec.{leb, leb→le}
-use lib.ListN.{take}
-use lib.Seq.{take_all}
+use borrow.Author.Tests.{lt-leb, leb-true, leb-false}
+use lib.Dec.{leb}
+use lib.ListN.{length, take}
+use lib.Seq.{take_all, length-take-le}
 use lib.Ieee.{Float}
 use Rattle.limits.specs.Limits.{most_cycle_events, most_events}
 use Rattle.binary64.specs.Doubles.{plus_zero}
-use Rattle.matrix.specs.Matrix.{tabulate}
-use Rattle.matrix.proofs.Filled.{tabulate-length}
 use Rattle.linear_pk.specs.declared.kernel.LinearPk.{LinearPk}
-use Rattle.events_layout.specs.Layout.{event_count, events_fit, event_of, events_of, event_or_none}
-use Rattle.events_layout.proofs.Laws.{front_events}
+use Rattle.events_layout.specs.Layout.{events_fit, events_of}
+use Rattle.protocol.specs.declared.Event.{Event}
 use Rattle.protocol.specs.declared.Window.{Window}
 use Rattle.cycle.specs.declared.SteadyStateTolerance.{SteadyStateTolerance}
 use Rattle.cycle.specs.Closed.{Timed, stopped, SteadyState}
@@ -26,29 +25,20 @@ module _ (k : LinearPk) (w : Window) (ss : List Float) (ws : List ℕ) (tol : St
   unfolding steady_words
   unfit h = rw h
 
-  abbrev read : Timed SteadyState
-  read = steady_entry k w ss (tabulate most_events (event_or_none ws)) (event_count ws) tol room
-
-  abbrev given : Timed SteadyState
-  given = steady_entry k w ss (events_of ws) (event_count ws) tol room
-
-  few : leb (event_count ws) most_cycle_events ≡ true → read ≡ given
-  unfolding steady_entry events_of
-  few e =
-      let l : event_count ws ≤ most_cycle_events = leb→le (event_count ws) most_cycle_events (rw e tt) in
-      let t : take (event_count ws) (tabulate most_events (event_or_none ws)) ≡ take (event_count ws) (events_of ws) =
-      front_events most_events ws (omega arith) ∙ sym (take_all (event_count ws) (events_of ws) (omega (arith, tabulate-length (event_of ws) (event_count ws)))) in
-      rw t
-
-  -- more than the most of a cycle are 5 either way
-  many : leb (event_count ws) most_cycle_events ≡ false → read ≡ given
+  over : (es : List Event) → most_cycle_events < length es → steady_entry k w ss es tol room ≡ stopped 5 plus_zero
   unfolding steady_entry
-  many e = rw e
+  over es h = rw (lt-leb (length es) most_cycle_events h)
 
-  pub words-entry : events_fit ws ≡ true → read ≡ steady_words k w ss ws tol room
-  unfolding steady_words
-  words-entry h = rw h (on (leb (event_count ws) most_cycle_events) refl)
+  -- those that a list holds are solved as all are
+  read_in : (es : List Event) → steady_entry k w ss (take most_events es) tol room ≡ steady_entry k w ss es tol room
+  read_in es = on (leb (length es) most_events) refl
     where
-      on : (b : Bool) → leb (event_count ws) most_cycle_events ≡ b → read ≡ given
-      on true e = few e
-      on false e = many e
+      on : (b : Bool) → leb (length es) most_events ≡ b → steady_entry k w ss (take most_events es) tol room ≡ steady_entry k w ss es tol room
+      on true e = ap (λ (xs : List Event). steady_entry k w ss xs tol room) (take_all most_events es (leb-true (length es) most_events e))
+      on false e =
+          let l = leb-false (length es) most_events e in
+          over (take most_events es) (omega (arith, length-take-le most_events es (omega arith))) ∙ sym (over es (omega arith))
+
+  pub words-entry : events_fit ws ≡ true → steady_entry k w ss (take most_events (events_of ws)) tol room ≡ steady_words k w ss ws tol room
+  unfolding steady_words
+  words-entry h = rw h (read_in (events_of ws))

@@ -1,18 +1,13 @@
 -- The closed cycle of events that are laid out as words, six to an event: what the C interface replies. Definitions only.
 use Rattle.std.specs.Prelude.{Bool, List, ℕ, Float}
-use Rattle.refusal.specs.Numbers.{reply_number}
 use Rattle.linear_pk.specs.declared.kernel.LinearPk.{LinearPk}
-use Rattle.events_layout.specs.Layout.{event_count, events_fit, events_of}
+use Rattle.events_layout.specs.Layout.{events_fit, events_of}
 use Rattle.protocol.specs.declared.Window.{Window}
 use Rattle.cycle.specs.declared.SteadyStateTolerance.{SteadyStateTolerance}
-use Rattle.cycle.specs.Closed.{Timed, then, unless_fails, SteadyState, SteadyReport}
+use Rattle.cycle.specs.Closed.{Timed, then, unless_fails, SteadyState}
 use Rattle.periodic_acceptance.specs.Entry.{steady_entry}
-use Rattle.capi_steady.specs.declared.TimedReply.{TimedReply}
 
 -- 40 where the words are no events, else the library's closed cycle of them
 unfoldable pub steady_words : LinearPk → Window → List Float → List ℕ → SteadyStateTolerance → Bool → Timed SteadyState
 unfolding steady_entry
-steady_words k w ss ws tol room = then (unless_fails (events_fit ws) 40 ws) (λ ws. steady_entry k w ss (events_of ws) (event_count ws) tol room)
-
-abbrev pub steady_reported : TimedReply → SteadyReport
-steady_reported r = record { number = reply_number r.reply; time = r.time; maximum = r.maximum }
+steady_words k w ss ws tol room = then (unless_fails (events_fit ws) 40 ws) (λ ws. steady_entry k w ss (events_of ws) tol room)

@@ -215,7 +215,7 @@ zeroed_event n w seen (Reset t i v o c) h =
     swap_test (within w t) (ltb i n) (finite v && not (any (same_reset t o) seen)) (not (any (same_reset t o) (homogeneous seen)))
     (λ g. subst (λ (b : Bool). T (not b)) (sym (zeroed_reset t o seen)) (both (finite v) _ g).1) h
 
-zeroed-events : (n : ℕ) (w : Window) (seen es : List Event) → T (events_pass n w seen es) → T (events_pass n w (homogeneous seen) (homogeneous es))
+pub zeroed-events : (n : ℕ) (w : Window) (seen es : List Event) → T (events_pass n w seen es) → T (events_pass n w (homogeneous seen) (homogeneous es))
 unfolding homogeneous
 zeroed-events n w seen [] h = tt
 zeroed-events n w seen (e ∷ es) h =
@@ -223,7 +223,7 @@ zeroed-events n w seen (e ∷ es) h =
     and_T (event_passes n w (homogeneous seen) (zeroed e)) (events_pass n w (homogeneous (e ∷ seen)) (homogeneous es))
     (zeroed_event n w seen e p.0) (zeroed-events n w (e ∷ seen) es p.1)
 
-zeroed-length : (es : List Event) → length (homogeneous es) ≡ length es
+pub zeroed-length : (es : List Event) → length (homogeneous es) ≡ length es
 unfolding homogeneous
 zeroed-length [] = refl
 zeroed-length (e ∷ es) = ap suc (zeroed-length es)

@@ -1,4 +1,3 @@
-pub mod Inserts
-pub mod ResetOrder
-pub mod Doses
 pub mod Chains
+pub mod Doses
+pub mod Listings

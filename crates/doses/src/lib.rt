@@ -3,102 +3,67 @@
 
 pub mod resets;
 
-ghost use Rattle.std.specs.Prelude.{map, ◌++◌, ◌≤◌};
+ghost use Rattle.std.specs.Prelude.{map, ◌++◌, ◌≤◌, length};
 ghost use Rattle.limits.specs.Limits.{states, most_events};
 ghost use Rattle.protocol.specs.Events.{resets, boluses};
 ghost use Rattle.protocol.specs.Schedule.{apply};
-ghost use Rattle.events.specs.Packed.{packed};
-ghost use Rattle.doses.specs.Places.{Places, events_placed};
 ghost use Rattle.doses_steps.specs.Takes.{Takes};
 
-use events::{Reals, Words};
-use limits::EVENTS;
+use protocol::Event;
 use rows::Progress;
 
 // The boluses at t in list order.
-fn apply_boluses(
-    reals: &Reals,
-    words: &Words,
-    count: usize,
-    n: usize,
-    t: f64,
-    start: Progress,
-) -> Progress
-    requires { (count ≤ most_events) × (n ≤ states) }
-    ensures { Takes n start (map (apply t) (boluses t (packed reals.now words.now count))) result }
+fn apply_boluses(events: &[Event], n: usize, t: f64, start: Progress) -> Progress
+    requires { n ≤ states }
+    ensures { Takes n start (map (apply t) (boluses t events.now)) result }
 {
     let mut p = start;
-    let mut i = 0usize;
-    while i < count {
-        let q = doses_steps::apply_bolus(events::event_at(reals, words, i), n, t, p);
+    for event in events {
+        let q = doses_steps::apply_bolus(event, n, t, p);
         if q.stopped() {
             return q;
         }
         p = q;
-        i += 1;
     }
     p.resumed()
 }
 
-// The events at the first m places of the list.
-fn apply_listed(
-    reals: &Reals,
-    words: &Words,
-    list: &[usize; EVENTS],
-    m: usize,
-    n: usize,
-    t: f64,
-    start: Progress,
-) -> Progress
-    requires { (m ≤ most_events) × (n ≤ states) × Places list.now }
-    ensures { Takes n start (map (apply t) (events_placed reals.now words.now list.now m)) result }
+// The events in turn.
+fn apply_each(events: &[Event], n: usize, t: f64, start: Progress) -> Progress
+    requires { n ≤ states }
+    ensures { Takes n start (map (apply t) events.now) result }
 {
     let mut p = start;
-    let mut k = 0usize;
-    while k < m {
-        let q = doses_steps::apply_one(events::event_at(reals, words, list[k]), n, t, p);
+    for event in events {
+        let q = doses_steps::apply_one(event, n, t, p);
         if q.stopped() {
             return q;
         }
         p = q;
-        k += 1;
     }
     p.resumed()
 }
 
 // The resets at t by order.
-fn apply_resets(
-    reals: &Reals,
-    words: &Words,
-    count: usize,
-    n: usize,
-    t: f64,
-    start: Progress,
-) -> Progress
-    requires { (count ≤ most_events) × (n ≤ states) }
-    ensures { Takes n start (map (apply t) (resets t (packed reals.now words.now count))) result }
+fn apply_resets(events: &[Event], n: usize, t: f64, start: Progress) -> Progress
+    requires { (length events.now ≤ most_events) × (n ≤ states) }
+    ensures { Takes n start (map (apply t) (resets t events.now)) result }
 {
-    let mut list = [0usize; EVENTS];
-    let m = resets::list_resets(reals, words, count, t, &mut list);
-    apply_listed(reals, words, &list, m, n, t, start)
+    if !resets::has_reset(events, t) {
+        return start.resumed();
+    }
+    let listed = resets::resets_at(events, t);
+    apply_each(listed.as_slice(), n, t, start)
 }
 
 // The resets at t by order, then the boluses in list order.
-pub fn apply_events(
-    reals: &Reals,
-    words: &Words,
-    count: usize,
-    n: usize,
-    t: f64,
-    start: Progress,
-) -> Progress
-    requires { (count ≤ most_events) × (n ≤ states) }
-    ensures { Takes n start (map (apply t) (resets t (packed reals.now words.now count)
-        ++ boluses t (packed reals.now words.now count))) result }
+pub fn apply_events(events: &[Event], n: usize, t: f64, start: Progress) -> Progress
+    requires { (length events.now ≤ most_events) × (n ≤ states) }
+    ensures { Takes n start (map (apply t) (resets t events.now ++ boluses t events.now)) result }
 {
-    let p = apply_resets(reals, words, count, n, t, start);
+    let p = apply_resets(events, n, t, start);
     if p.stopped() {
         return p;
     }
-    apply_boluses(reals, words, count, n, t, p)
+    apply_boluses(events, n, t, p)
 }

@@ -10,7 +10,6 @@ ghost use Rattle.protocol.specs.Events.{is_bolus, boluses};
 ghost use Rattle.protocol.specs.Schedule.{check, apply};
 ghost use Rattle.doses_steps.specs.Takes.{checked_with, Takes};
 
-use binary64::Test;
 use limits::STATES;
 use protocol::Event;
 use refusal::Refusal;
@@ -22,26 +21,27 @@ pub fn check_state(n: usize, amounts: [f64; STATES]) -> bool
     ensures { result ≡ all nonnegative (take n amounts) }
 {
     let state = &amounts[..n];
-    binary64::all_pass(Test::Nonnegative, state)
+    binary64::all_nonnegative(state)
 }
 
 // What the event makes of its target's amount.
-fn dosed(event: Event, x: f64) -> f64
-    ensures { result ≡ dosedOf event x }
+#[tactic(auto, unfolding(protocol::specs::Execute::dosed))]
+fn dosed(event: &Event, x: f64) -> f64
+    ensures { result ≡ dosedOf event.now x }
 {
     match event {
-        Event::Bolus { amount, .. } => x + amount,
+        Event::Bolus { amount, .. } => x + *amount,
         Event::Infusion { .. } => x,
-        Event::Reset { value, .. } => value,
+        Event::Reset { value, .. } => *value,
     }
 }
 
 // The event applied to the n amounts.
-pub fn dose(event: Event, n: usize, amounts: [f64; STATES]) -> [f64; STATES]
+pub fn dose(event: &Event, n: usize, amounts: [f64; STATES]) -> [f64; STATES]
     requires { n ≤ states }
-    ensures { take n result ≡ dosed_amounts event (take n amounts) }
+    ensures { take n result ≡ dosed_amounts event.now (take n amounts) }
 {
-    let i = events::target_of(event);
+    let i = event.target();
     if i < n {
         let mut next = amounts;
         next[i] = dosed(event, next[i]);
@@ -72,29 +72,30 @@ pub fn check_at(n: usize, t: f64, start: Progress) -> Progress
 }
 
 // A reset or a bolus at t, and the state checked.
-pub fn apply_one(event: Event, n: usize, t: f64, start: Progress) -> Progress
+pub fn apply_one(event: &Event, n: usize, t: f64, start: Progress) -> Progress
     requires { n ≤ states }
-    ensures { Takes n start (apply t event ∷ []) result }
+    ensures { Takes n start (apply t event.now ∷ []) result }
 {
     let amounts = start.amounts;
     let next = dose(event, n, amounts);
     tested(n, t, start, next)
 }
 
-fn is_bolus(t: f64, event: Event) -> bool
-    ensures { result ≡ is_bolus t event }
+#[tactic(auto, unfolding(protocol::specs::Events::is_bolus))]
+fn is_bolus(t: f64, event: &Event) -> bool
+    ensures { result ≡ is_bolus t event.now }
 {
     match event {
-        Event::Bolus { time, .. } => time == t,
+        Event::Bolus { time, .. } => *time == t,
         Event::Infusion { .. } => false,
         Event::Reset { .. } => false,
     }
 }
 
 // The event, if it is a bolus at t.
-pub fn apply_bolus(event: Event, n: usize, t: f64, start: Progress) -> Progress
+pub fn apply_bolus(event: &Event, n: usize, t: f64, start: Progress) -> Progress
     requires { n ≤ states }
-    ensures { Takes n start (map (apply t) (boluses t (event ∷ []))) result }
+    ensures { Takes n start (map (apply t) (boluses t (event.now ∷ []))) result }
 {
     if is_bolus(t, event) {
         return apply_one(event, n, t, start);

@@ -1,7 +1,7 @@
 -- The leading part after an exchange.
 use mathlib.Core.Path.{◌≡◌, refl, sym, ◌∙◌}
 use mathlib.Core.Bool.{Bool, true, false}
-use mathlib.Core.List.{List, []}
+use mathlib.Core.List.{List, [], ◌∷◌}
 use Prim.Native.Nat.{ℕ, ◌≤◌, ◌<◌}
 use native.Mathlib.Omega.{arith}
 use lib.Dec.{eqb}
@@ -11,6 +11,8 @@ use borrow.Author.Tests.{eqb-true, eqb-false}
 use lib.Ieee.{Float, nan}
 use Rattle.matrix.specs.Matrix.{Matrix, cell, tabulate, table}
 use Rattle.matrix.specs.Arrays.{lead}
+use Rattle.std.specs.Prelude.{swap}
+use Rattle.std.proofs.lemmas.List.{get_or_default}
 use Rattle.cycle.specs.Elimination.{swapped}
 use Rattle.matrix.proofs.Filled.{tabulate-at, tabulate-length}
 
@@ -48,3 +50,9 @@ module _ (n k p : ℕ) (k-below : k < n) (p-below : p < n) where
   pub swapped-part : (b : List Float) → take n (swapped nan k p b) ≡ swapped nan k p (take n b)
   unfolding swapped
   swapped-part b = rw (take-set-lt n (set b k (get_or b p nan)) p (get_or b k nan), take-set-lt n b k (get_or b p nan), get_or-take n b k nan, get_or-take n b p nan)
+
+-- the library's exchange of two elements that are there
+pub swapped-is : {A : Type 0} (z : A) (xs : List A) (i j : ℕ) → i < length xs → j < length xs → swap xs i j ≡ swapped z i j xs
+unfolding swapped
+swapped-is z [] i j p q = refl
+swapped-is z (x ∷ xs) i j p q = rw (get_or_default (x ∷ xs) j x z q, get_or_default (x ∷ xs) i x z p)

@@ -11,14 +11,10 @@ use lib.Ieee.{Float, nan, binary64, sub, mul, div}
 use Rattle.limits.specs.Limits.{states}
 use Rattle.binary64.specs.Doubles.{plus_zero}
 use Rattle.matrix.specs.Matrix.{Matrix, cell, at, table, tabulate}
-use Rattle.matrix.specs.Arrays.{lead, updated}
+use Rattle.matrix.specs.Arrays.{lead}
 use Rattle.cycle.specs.Elimination.{system_cell, factor, reduced_cell, reduced_right}
-use Rattle.elimination_steps.specs.declared.table.Cells.{Cells}
-use Rattle.elimination_steps.specs.declared.table.Cells.TheVariants as C
 use Rattle.elimination_system.specs.Systems.{held}
-use Rattle.elimination_steps.specs.Tables.{cell_of}
 use Rattle.matrix.proofs.Filled.{tabulate-at}
-use Rattle.matrix.proofs.Updated.{updated-at}
 use Rattle.matrix.proofs.Rows.{table_cong, lead-at}
 
 module _ (n : ℕ) (a : Matrix) where
@@ -26,10 +22,13 @@ module _ (n : ℕ) (a : Matrix) where
   unfolding factor
   factor-lead k i p q = ap₂ (div binary64) (lead-at n a i k q p) (lead-at n a k k p p)
 
-  cell-lead : (cells : Cells) (i j : ℕ) → i < n → j < n → cell_of cells (lead n a) i j ≡ cell_of cells a i j
-  unfolding system_cell reduced_cell
-  cell-lead C.System i j p q = rw (lead-at n a j i q p)
-  cell-lead (C.Reduced k) i j p q = rw (lead-at n a i j p q) (on (ltb k i) (ltb k j) (λ t. omega (arith, ltb→lt k i t)))
+  pub system-lead : (i j : ℕ) → i < n → j < n → system_cell (lead n a) i j ≡ system_cell a i j
+  unfolding system_cell
+  system-lead i j p q = rw (lead-at n a j i q p)
+
+  pub reduced-lead : (k i j : ℕ) → i < n → j < n → reduced_cell (lead n a) k i j ≡ reduced_cell a k i j
+  unfolding reduced_cell
+  reduced-lead k i j p q = rw (lead-at n a i j p q) (on (ltb k i) (ltb k j) (λ t. omega (arith, ltb→lt k i t)))
     where
       on : (b c : Bool) → (T b → k < n)
           → cond (b && c) (sub binary64 (at a i j) (mul binary64 (factor (lead n a) k i) (at (lead n a) k j))) (at a i j)
@@ -48,13 +47,11 @@ module _ (n : ℕ) (a : Matrix) where
       on true f = rw (factor-lead k i (f tt) p, get_or-take n b k nan (f tt))
       on false f = refl
 
-  -- the rows of an array are filled
-  pub table-made :
-      (cells : Cells) {r : Matrix} → n ≤ states → r ≡ updated n (λ i x. tabulate states (cell_of cells a i))
-      (replicate states (replicate states plus_zero)) → lead n r ≡ table n (cell_of cells (lead n a))
-  unfolding lead
-  table-made cells fit e =
-      table_cong n (λ i j p q. rw e
-      (ap (λ (r : List Float). cell r j) (updated-at (λ i x. tabulate states (cell_of cells a i)) [] n i
-      (replicate states (replicate states plus_zero)) p (omega arith))
-      ∙ tabulate-at (cell_of cells a i) nan 4 j (omega arith) ∙ sym (cell-lead cells i j p q)))
+-- the leading part of a table of cells
+pub table-made : (n : ℕ) (f g : ℕ → ℕ → Float) {r : Matrix} → n ≤ states → r ≡ tabulate states (λ i. tabulate states (f i))
+    → ((i j : ℕ) → i < n → j < n → g i j ≡ f i j) → lead n r ≡ table n g
+unfolding lead
+table-made n f g fit e h =
+    table_cong n (λ i j p q. rw e
+    (ap (λ (r : List Float). cell r j) (tabulate-at (λ i. tabulate states (f i)) [] 4 i (omega arith))
+    ∙ tabulate-at (f i) nan 4 j (omega arith) ∙ sym (h i j p q)))

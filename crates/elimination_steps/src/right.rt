@@ -1,24 +1,12 @@
 // The right side of a system.
-ghost use Rattle.std.specs.Prelude.{◌≡◌, ◌≤◌, ◌<◌, take};
-ghost use Rattle.std.specs.Float.{nan};
+ghost use Rattle.std.specs.Prelude.{◌≡◌, ◌≤◌, take};
 ghost use Rattle.limits.specs.Limits.{states};
 ghost use Rattle.matrix.specs.Matrix.{tabulate};
-ghost use Rattle.cycle.specs.Elimination.{swapped, reduced_right};
+ghost use Rattle.cycle.specs.Elimination.{reduced_right};
 ghost use Rattle.elimination_system.specs.Systems.{held};
 
 use elimination_system::entries::reduced_entry;
 use limits::STATES;
-
-// Entries k and p exchanged.
-pub fn exchanged(right: [f64; STATES], k: usize, p: usize) -> [f64; STATES]
-    requires { (k < states) × (p < states) }
-    ensures { result ≡ swapped nan k p right }
-{
-    let mut side = right;
-    side[k] = right[p];
-    side[p] = right[k];
-    side
-}
 
 pub fn reduced(
     a: &[[f64; STATES]; STATES],

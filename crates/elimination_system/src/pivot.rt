@@ -4,42 +4,17 @@ ghost use Rattle.limits.specs.Limits.{states};
 ghost use Rattle.binary64.specs.Doubles.{magnitude, total_le};
 ghost use Rattle.matrix.specs.Matrix.{at as at_of};
 ghost use Rattle.matrix.specs.Arrays.{lead};
-ghost use Rattle.matrix.specs.Exponential.{row_sum, norm_to};
 ghost use Rattle.cycle.specs.Elimination.{least_pivot, pivot_of, pivot_passes};
 
 use crate::entries::at;
 use limits::STATES;
-
-// The sum of the magnitudes in row i.
-fn row_sum(a: &[[f64; STATES]; STATES], n: usize, i: usize) -> f64
-    requires { (i < states) × (n ≤ states) }
-    ensures { result ≡ row_sum a.now n i }
-{
-    let mut sum = -0.0f64;
-    for j in 0..n {
-        sum = sum + binary64::abs(at(a, i, j));
-    }
-    sum
-}
-
-// The largest row sum.
-fn norm(a: &[[f64; STATES]; STATES], n: usize) -> f64
-    requires { n ≤ states }
-    ensures { result ≡ norm_to a.now n n }
-{
-    let mut largest = 0.0f64;
-    for i in 0..n {
-        largest = binary64_order::max(largest, row_sum(a, n, i));
-    }
-    largest
-}
 
 // 64 times the distance from 1 to the next double, times the norm or 1.
 pub fn least(a: &[[f64; STATES]; STATES], n: usize) -> f64
     requires { n ≤ states }
     ensures { result ≡ least_pivot n (lead n a.now) }
 {
-    64.0 * 2.220446049250313e-16 * binary64_order::max(norm(a, n), 1.0)
+    64.0 * 2.220446049250313e-16 * binary64_order::max(exponential_norm::norm(a, n), 1.0)
 }
 
 // The row of the larger magnitude in column k, i where they are level.

@@ -1,2 +1,3 @@
 pub mod Marking
 pub mod SummedRates
+pub mod Happening

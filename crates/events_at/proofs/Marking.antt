@@ -2,68 +2,74 @@
 use mathlib.Core.Path.{◌≡◌, refl, ap, ap₂, sym, ◌∙◌}
 use mathlib.Core.Bool.{Bool, true, false, ◌&&◌, ◌||◌}
 use mathlib.Core.List.{List, [], ◌∷◌, zip_with}
-use Prim.Native.Nat.{ℕ, zero, suc, ◌+◌, ◌≤◌}
-use native.Mathlib.Nat.{le_antisymm}
+use Prim.Native.Nat.{ℕ, zero, suc, ◌+◌, ◌<◌}
+use native.Mathlib.Nat.{not-suc-le-zero, le_of_suc-le-suc}
+use native.Mathlib.Numerals.{add-one}
 use native.Mathlib.Omega.{arith}
 use lib.ListN.{length, get_or, set, take}
+use lib.Seq.{take-suc}
 use lib.Ieee.{Float, eq}
-use Rattle.matrix.specs.Matrix.{tabulate, tabulate_from}
-use Rattle.matrix.specs.Arrays.{updated, updated_from}
-use Rattle.matrix.proofs.Updated.{updated_more, updated-length}
+use Rattle.std.proofs.Common.{take_all}
 use Rattle.binary64.specs.Lists.{any}
 use Rattle.protocol.specs.Events.{target, running, marks}
 use Rattle.protocol.specs.Schedule.{marked}
 use Rattle.protocol.specs.declared.Event.{Event}
 use Rattle.protocol.specs.declared.Event.TheVariants.{Bolus, Infusion, Reset}
-use Rattle.events.specs.Packed.{event_at, packed, stops_at, marked_by}
-use Rattle.events.proofs.Packing.{tabulate_snoc}
-use Rattle.events.proofs.Scans.{any_append, or_none, or_regroup}
+use Rattle.events_at.specs.At.{stops_at, marked_by}
+use Rattle.events_times.proofs.Either.{any_append, or_none, or_regroup}
 
-module _ {A : Type 0} where
-  from_twice : (g h : ℕ → A → A) (i m : ℕ) (xs : List A) → updated_from i m g (updated_from i m h xs) ≡ updated_from i m (λ k x. g k (h k x)) xs
-  unfolding updated_from
-  from_twice g h i zero xs = refl
-  from_twice g h i (suc m) [] = refl
-  from_twice g h i (suc m) (x ∷ xs) = ap (◌∷◌ (g i (h i x))) (from_twice g h (suc i) m xs)
+module _ {A B : Type 0} where
+  -- the first i elements of a list, zipped in place
+  abbrev pub zipped : (A → B → B) → ℕ → List A → List B → List B
+  zipped h zero xs ys = ys
+  zipped h (suc i) [] ys = ys
+  zipped h (suc i) (x ∷ xs) [] = []
+  zipped h (suc i) (x ∷ xs) (y ∷ ys) = h x y ∷ zipped h i xs ys
 
-  updated_twice : (g h : ℕ → A → A) (m : ℕ) (xs : List A) → updated m g (updated m h xs) ≡ updated m (λ k x. g k (h k x)) xs
-  unfolding updated
-  updated_twice g h m xs = from_twice g h 0 m xs
+  pub zipped_more : (h : A → B → B) (i : ℕ) (xs : List A) (ys : List B) (d : A) (z : B) → i < length xs → i < length ys
+      → set (zipped h i xs ys) i (h (get_or xs i d) (get_or (zipped h i xs ys) i z)) ≡ zipped h (suc i) xs ys
+  zipped_more h i [] ys d z p q = absurd (not-suc-le-zero p)
+  zipped_more h i (x ∷ xs) [] d z p q = absurd (not-suc-le-zero q)
+  zipped_more h zero (x ∷ xs) (y ∷ ys) d z p q = refl
+  zipped_more h (suc i) (x ∷ xs) (y ∷ ys) d z p q = ap (◌∷◌ (h x y)) (zipped_more h i xs ys d z (le_of_suc-le-suc p) (le_of_suc-le-suc q))
 
-  from_cong : (g h : ℕ → A → A) → ((k : ℕ) (x : A) → g k x ≡ h k x) → (i m : ℕ) (xs : List A) → updated_from i m g xs ≡ updated_from i m h xs
-  unfolding updated_from
-  from_cong g h e i zero xs = refl
-  from_cong g h e i (suc m) [] = refl
-  from_cong g h e i (suc m) (x ∷ xs) = ap₂ ◌∷◌ (e i x) (from_cong g h e (suc i) m xs)
+  pub zipped_all : (h : A → B → B) (xs : List A) (ys : List B) → length ys ≡ length xs → zipped h (length xs) xs ys ≡ zip_with h xs ys
+  unfolding zip_with
+  zipped_all h [] [] e = refl
+  zipped_all h [] (y ∷ ys) e = absurd (omega arith)
+  zipped_all h (x ∷ xs) [] e = refl
+  zipped_all h (x ∷ xs) (y ∷ ys) e = ap (◌∷◌ (h x y)) (zipped_all h xs ys (omega arith))
 
-  updated_cong : (g h : ℕ → A → A) → ((k : ℕ) (x : A) → g k x ≡ h k x) → (m : ℕ) (xs : List A) → updated m g xs ≡ updated m h xs
-  unfolding updated
-  updated_cong g h e m xs = from_cong g h e 0 m xs
+  zip_cong : (g h : A → B → B) → ((x : A) (y : B) → g x y ≡ h x y) → (xs : List A) (ys : List B) → zip_with g xs ys ≡ zip_with h xs ys
+  unfolding zip_with
+  zip_cong g h e [] ys = refl
+  zip_cong g h e (x ∷ xs) [] = refl
+  zip_cong g h e (x ∷ xs) (y ∷ ys) = ap₂ ◌∷◌ (e x y) (zip_cong g h e xs ys)
 
-  from_same : (g : ℕ → A → A) → ((k : ℕ) (x : A) → g k x ≡ x) → (i m : ℕ) (xs : List A) → updated_from i m g xs ≡ xs
-  unfolding updated_from
-  from_same g e i zero xs = refl
-  from_same g e i (suc m) [] = refl
-  from_same g e i (suc m) (x ∷ xs) = ap₂ ◌∷◌ (e i x) (from_same g e (suc i) m xs)
+  zip_twice : (g h : A → B → B) (xs : List A) (ys : List B) → zip_with g xs (zip_with h xs ys) ≡ zip_with (λ x y. g x (h x y)) xs ys
+  unfolding zip_with
+  zip_twice g h [] ys = refl
+  zip_twice g h (x ∷ xs) [] = refl
+  zip_twice g h (x ∷ xs) (y ∷ ys) = ap (◌∷◌ (g x (h x y))) (zip_twice g h xs ys)
 
-  updated-same : (g : ℕ → A → A) → ((k : ℕ) (x : A) → g k x ≡ x) → (m : ℕ) (xs : List A) → updated m g xs ≡ xs
-  unfolding updated
-  updated-same g e m xs = from_same g e 0 m xs
+  zip_same : (g : A → B → B) → ((x : A) (y : B) → g x y ≡ y) → (xs : List A) (ys : List B) → length ys ≡ length xs → zip_with g xs ys ≡ ys
+  unfolding zip_with
+  zip_same g e [] [] p = refl
+  zip_same g e [] (y ∷ ys) p = absurd (omega arith)
+  zip_same g e (x ∷ xs) [] p = refl
+  zip_same g e (x ∷ xs) (y ∷ ys) p = ap₂ ◌∷◌ (e x y) (zip_same g e xs ys (omega arith))
 
-from_zip : {A B : Type 0} (h : A → B → B) (f : ℕ → A) (i m : ℕ) (xs : List B)
-    → take m (updated_from i m (λ k x. h (f k) x) xs) ≡ zip_with h (tabulate_from i m f) (take m xs)
-unfolding updated_from tabulate_from zip_with
-from_zip h f i zero xs = refl
-from_zip h f i (suc m) [] = refl
-from_zip h f i (suc m) (x ∷ xs) = ap (◌∷◌ (h (f i) x)) (from_zip h f (suc i) m xs)
-
-false_is_not_true : false ≡ true → ⊥
-false_is_not_true e = let z : ◌≡◌ {A = ℕ} 0 1 = cc in omega arith
+  pub zip_length : (g : A → B → B) (xs : List A) (ys : List B) → length ys ≡ length xs → length (zip_with g xs ys) ≡ length ys
+  unfolding zip_with
+  zip_length g [] [] p = refl
+  zip_length g [] (y ∷ ys) p = absurd (omega arith)
+  zip_length g (x ∷ xs) [] p = refl
+  zip_length g (x ∷ xs) (y ∷ ys) p = ap suc (zip_length g xs ys (omega arith))
 
 and_done : (a b c : Bool) → a && b ≡ true → a && (b && c) ≡ c
 and_done true true c e = refl
-and_done true false c e = absurd (false_is_not_true e)
-and_done false b c e = absurd (false_is_not_true e)
+and_done true false c e = cc
+and_done false b c e = cc
 
 and_not : (a b c : Bool) → a && b ≡ false → a && (b && c) ≡ false
 and_not true b c e = ap (λ (d : Bool). d && c) e
@@ -71,8 +77,8 @@ and_not false b c e = refl
 
 marks-stop : (t : Float) (r e : Event) → stops_at t r ≡ true → marks t r e ≡ running t (target r) e
 unfolding stops_at marks target
-marks-stop t (Bolus s i a) e h = absurd (false_is_not_true h)
-marks-stop t (Infusion s i a d) e h = absurd (false_is_not_true h)
+marks-stop t (Bolus s i a) e h = cc
+marks-stop t (Infusion s i a d) e h = cc
 marks-stop t (Reset s i v o c) e h = and_done (eq s t) c (running t i e) h
 
 marks_not : (t : Float) (r e : Event) → stops_at t r ≡ false → marks t r e ≡ false
@@ -81,58 +87,56 @@ marks_not t (Bolus s i a) e h = refl
 marks_not t (Infusion s i a d) e h = refl
 marks_not t (Reset s i v o c) e h = and_not (eq s t) c (running t i e) h
 
-pub marked_more : (t : Float) (i : ℕ) (rs : List (List Float)) (ws : List (List ℕ)) (k : ℕ) (ms : List Bool) {xs : List Bool} {v : Bool}
-    → v ≡ running t i (event_at rs ws k) → xs ≡ marked_by t i rs ws k ms → set xs k (get_or xs k false || v) ≡ marked_by t i rs ws (k + 1) ms
+-- the marks of the first i events, behind a reset
+abbrev pub marked_front : Float → ℕ → ℕ → List Event → List Bool → List Bool
+marked_front t j i es ms = zipped (λ (e : Event) (m : Bool). m || running t j e) i es ms
+
+pub marked_more : (t : Float) (j i : ℕ) (es : List Event) (ms : List Bool) (d : Event) {xs : List Bool} {v : Bool} → i < length es → length ms ≡ length es
+    → v ≡ running t j (get_or es i d) → xs ≡ marked_front t j i es ms → set xs i (get_or xs i false || v) ≡ marked_front t j (i + 1) es ms
+marked_more t j i es ms d {xs} h l p q =
+    ap₂ (λ (ys : List Bool) (b : Bool). set ys i (get_or ys i false || b)) q p
+    ∙ zipped_more (λ (e : Event) (m : Bool). m || running t j e) i es ms d false h (omega arith) ∙ rw add-one
+
+pub marked_all : (t : Float) (j : ℕ) (es : List Event) (ms : List Bool) → length ms ≡ length es → marked_front t j (length es) es ms ≡ marked_by t j es ms
 unfolding marked_by
-marked_more t i rs ws k ms {xs} p q = updated_more (λ k m. m || running t i (event_at rs ws k)) false k ms q (ap (λ (b : Bool). get_or xs k false || b) p)
+marked_all t j es ms l = zipped_all (λ (e : Event) (m : Bool). m || running t j e) es ms l
 
-pub marked_none : (t : Float) (i : ℕ) (rs : List (List Float)) (ws : List (List ℕ)) (ms : List Bool) → ms ≡ marked_by t i rs ws 0 ms
-unfolding marked_by updated updated_from
-marked_none t i rs ws ms = refl
-
-module _ (t : Float) (rs : List (List Float)) (ws : List (List ℕ)) (count : ℕ) (ms : List Bool) where
-  -- whether one of the first i events marks the event at place k
-  abbrev hit : ℕ → ℕ → Bool
-  hit i k = any (λ (r : Event). marks t r (event_at rs ws k)) (tabulate i (event_at rs ws))
+module _ (t : Float) (es : List Event) (ms : List Bool) where
+  -- whether one of the first i events marks an event
+  abbrev hit : ℕ → Event → Bool
+  hit i e = any (λ (r : Event). marks t r e) (take i es)
 
   -- the marks behind the first i events
   unfoldable pub behind : ℕ → List Bool
-  behind i = updated count (λ k m. m || hit i k) ms
+  behind i = zip_with (λ (e : Event) (m : Bool). m || hit i e) es ms
 
-  hit_more : (i k : ℕ) → hit (i + 1) k ≡ hit i k || marks t (event_at rs ws i) (event_at rs ws k)
-  hit_more i k =
-      let p : Event → Bool = λ r. marks t r (event_at rs ws k) in
-      ap (any p) (tabulate_snoc (event_at rs ws) i) ∙ any_append p (tabulate i (event_at rs ws)) (event_at rs ws i ∷ [])
-      ∙ ap (λ (b : Bool). hit i k || b) (or_none (marks t (event_at rs ws i) (event_at rs ws k)))
+  hit_more : (i : ℕ) (d e : Event) → i < length es → hit (i + 1) e ≡ hit i e || marks t (get_or es i d) e
+  hit_more i d e h =
+      let p : Event → Bool = λ r. marks t r e in
+      rw (add-one, take-suc es i d h) (any_append p (take i es) (get_or es i d ∷ []) ∙ ap (λ (b : Bool). hit i e || b) (or_none (marks t (get_or es i d) e)))
 
-  pub behind-start : ms ≡ behind 0
-  unfolding behind tabulate tabulate_from
-  behind-start = sym (updated-same (λ k m. m || hit 0 k) (λ k m. or_none m) count ms)
-
-  pub behind_skip : (i : ℕ) {xs : List Bool} → stops_at t (event_at rs ws i) ≡ false → xs ≡ behind i → xs ≡ behind (i + 1)
+  pub behind-start : length ms ≡ length es → ms ≡ behind 0
   unfolding behind
-  behind_skip i h e =
-      e ∙ updated_cong (λ k m. m || hit i k) (λ k m. m || hit (i + 1) k)
-      (λ k m. ap (λ (b : Bool). m || b) (sym (hit_more i k
-      ∙ ap (λ (b : Bool). hit i k || b) (marks_not t (event_at rs ws i) (event_at rs ws k) h) ∙ or_none (hit i k)))) count ms
+  behind-start l = sym (zip_same (λ e m. m || hit 0 e) (λ e m. or_none m) es ms l)
 
-  pub behind_more : (i j : ℕ) {xs ys : List Bool} → stops_at t (event_at rs ws i) ≡ true → j ≡ target (event_at rs ws i) → xs ≡ behind i
-      → ys ≡ marked_by t j rs ws count xs → ys ≡ behind (i + 1)
+  pub behind_skip : (i : ℕ) (d : Event) {xs : List Bool} → i < length es → stops_at t (get_or es i d) ≡ false → xs ≡ behind i → xs ≡ behind (i + 1)
+  unfolding behind
+  behind_skip i d l h e =
+      e ∙ zip_cong (λ e m. m || hit i e) (λ e m. m || hit (i + 1) e)
+      (λ e m. ap (λ (b : Bool). m || b) (sym (hit_more i d e l
+      ∙ ap (λ (b : Bool). hit i e || b) (marks_not t (get_or es i d) e h) ∙ or_none (hit i e)))) es ms
+
+  pub behind_more : (i j : ℕ) (d : Event) {xs ys : List Bool} → i < length es → stops_at t (get_or es i d) ≡ true → j ≡ target (get_or es i d) → xs ≡ behind i
+      → ys ≡ marked_by t j es xs → ys ≡ behind (i + 1)
   unfolding behind marked_by
-  behind_more i j h g e q =
-      q ∙ ap₂ (λ (n : ℕ) (zs : List Bool). updated count (λ k m. m || running t n (event_at rs ws k)) zs) g e
-      ∙ updated_twice (λ k m. m || running t (target (event_at rs ws i)) (event_at rs ws k)) (λ k m. m || hit i k) count ms
-      ∙ updated_cong (λ k m. (m || hit i k) || running t (target (event_at rs ws i)) (event_at rs ws k)) (λ k m. m || hit (i + 1) k)
-      (λ k m. or_regroup m (hit i k) (running t (target (event_at rs ws i)) (event_at rs ws k))
-      ∙ ap (λ (b : Bool). m || b) (sym (hit_more i k ∙ ap (λ (b : Bool). hit i k || b)
-      (marks-stop t (event_at rs ws i) (event_at rs ws k) h)))) count ms
+  behind_more i j d l h g e q =
+      q ∙ ap₂ (λ (n : ℕ) (zs : List Bool). zip_with (λ (e : Event) (m : Bool). m || running t n e) es zs) g e
+      ∙ zip_twice (λ e m. m || running t (target (get_or es i d)) e) (λ e m. m || hit i e) es ms
+      ∙ zip_cong (λ e m. (m || hit i e) || running t (target (get_or es i d)) e) (λ e m. m || hit (i + 1) e)
+      (λ e m. or_regroup m (hit i e) (running t (target (get_or es i d)) e)
+      ∙ ap (λ (b : Bool). m || b) (sym (hit_more i d e l ∙ ap (λ (b : Bool). hit i e || b)
+      (marks-stop t (get_or es i d) e h)))) es ms
 
-  pub behind-all : (i : ℕ) {xs : List Bool} → i ≤ count → count ≤ i → xs ≡ behind i
-      → (length xs ≡ length ms) × (take count xs ≡ marked t (packed rs ws count) (take count ms))
-  unfolding behind marked packed updated tabulate
-  behind-all i p q e =
-      let r = rw (le_antisymm p q) at e in (
-        ap length e ∙ updated-length (λ k m. m || hit i k) count ms,
-        ap (take count) r ∙ from_zip (λ (e : Event) (m : Bool). m
-            || any (λ (r : Event). marks t r e) (tabulate_from 0 count (event_at rs ws))) (event_at rs ws) 0 count ms,
-      )
+  pub behind-all : {xs : List Bool} → xs ≡ behind (length es) → xs ≡ marked t es ms
+  unfolding behind marked
+  behind-all e = e ∙ ap (λ (rs : List Event). zip_with (λ (e : Event) (m : Bool). m || any (λ (r : Event). marks t r e) rs) es ms) (take_all (length es) es (omega arith))

@@ -1,32 +1,33 @@
 -- The rates of n states: the events that are left, added to the rates so far, give the whole sum.
-use mathlib.Core.Path.{◌≡◌, ap, ap₂, sym, ◌∙◌}
+use mathlib.Core.Path.{◌≡◌, refl, ap, ap₂, sym, ◌∙◌}
+use mathlib.Core.Logic.{◌⊎◌, inl, inr}
 use mathlib.Core.Bool.{Bool, true, false, cond}
-use mathlib.Core.List.{List, ◌∷◌}
-use Prim.Native.Nat.{ℕ, ◌+◌, ◌<◌, ◌≤◌}
-use native.Mathlib.Numerals.{add-one}
+use mathlib.Core.List.{List, [], ◌∷◌}
+use Prim.Native.Nat.{ℕ, ◌<◌, ◌≤◌}
 use native.Mathlib.Omega.{arith}
-use lib.ListN.{length, get_or, set, take, drop, length-take}
-use lib.Seq.{drop-cons, get_or-take, take-set-lt, set_out}
+use lib.ListN.{get_or, set, take, length-take}
+use lib.Seq.{get_or-take, take-set-lt, set_out}
 use lib.Ieee.{Float, nan, binary64, add}
 use Rattle.protocol.specs.Events.{target}
 use Rattle.protocol.specs.Schedule.{with_rate, with_rates, flows, infusion_rate, add_to}
 use Rattle.protocol.specs.declared.Event.{Event}
-use Rattle.events.proofs.Scans.{left, left_more, left_none}
 
-module _ (n : ℕ) (t : Float) (f : ℕ → Event) (count : ℕ) (ms : List Bool) where
-  abbrev pub rates_left : ℕ → List Float → List Float
-  rates_left k r = with_rates t (left f count k) (drop k (take count ms)) (take n r)
+abbrev pub rates_left : ℕ → Float → List Event → List Bool → List Float → List Float
+rates_left n t es ms r = with_rates t es ms (take n r)
 
-  marks_more : (k : ℕ) → k < count → count ≤ length ms → drop k (take count ms) ≡ get_or ms k false ∷ drop (k + 1) (take count ms)
-  marks_more k h l = drop-cons (take count ms) k false (omega (arith, length-take count ms)) ∙ rw (add-one, get_or-take count ms k false h)
+pub rates-more :
+    (n : ℕ) (t : Float) (e : Event) (m : Bool) {xs es : List Event} {ys ms : List Bool} (r s : List Float) {z : List Float} → xs ≡ e ∷ es → ys ≡ m ∷ ms
+    → take n s ≡ with_rate t e m (take n r) → rates_left n t xs ys r ≡ z → rates_left n t es ms s ≡ z
+rates-more n t e m {xs} {es} {ys} {ms} r s p q h g = ap (with_rates t es ms) h ∙ rw (p, q) at g
 
-  pub rates-more :
-      (k : ℕ) (r s : List Float) {z : List Float} → k < count → count ≤ length ms → take n s ≡ with_rate t (f k) (get_or ms k false) (take n r) → rates_left k r ≡ z
-      → rates_left (k + 1) s ≡ z
-  rates-more k r s h l e q = ap (with_rates t (left f count (k + 1)) (drop (k + 1) (take count ms))) e ∙ rw (left_more f count k h, marks_more k h l) at q
-
-  pub rates-done : (k : ℕ) (r : List Float) {z : List Float} → count ≤ k → rates_left k r ≡ z → take n r ≡ z
-  rates-done k r h q = rw (left_none f count k h) at q
+pub rates-done :
+    (n : ℕ) (t : Float) {xs : List Event} {ys : List Bool} (r : List Float) {z : List Float} → (xs ≡ []) ⊎ (ys ≡ []) → rates_left n t xs ys r ≡ z → take n r ≡ z
+rates-done n t {xs} {ys} r (inl p) g = rw p at g
+rates-done n t {xs} {ys} r (inr q) g = no_marks xs ∙ rw q at g
+  where
+    no_marks : (es : List Event) → take n r ≡ with_rates t es [] (take n r)
+    no_marks [] = refl
+    no_marks (e ∷ es) = refl
 
 module _ (n : ℕ) (t : Float) (e : Event) (m : Bool) {f : Bool} (p : f ≡ flows t e m) (r : List Float) where
   pub rate_skip : f ≡ false → take n r ≡ with_rate t e m (take n r)

@@ -1,4 +1,4 @@
-// What the events of a packed list do at a time: which happen there, which infusions a reset marks, the rates that are left.
+// What the events of a list do at a time: which happen there, which infusions a reset marks, the rates that are left.
 #![tactic(auto)]
 
 pub mod instants;

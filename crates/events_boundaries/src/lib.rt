@@ -1,62 +1,54 @@
 // The boundaries of a run.
 #![tactic(auto)]
 
-ghost use Rattle.std.specs.Prelude.{◌≡◌, ◌++◌, ◌≤◌, ◌+◌, ◌*◌, T, length, take};
+ghost use Rattle.std.specs.Prelude.{◌≡◌, ◌++◌, ◌≤◌, ◌+◌, T, length};
 ghost use Rattle.std.specs.Float.{binary64};
 ghost use Rattle.std.specs.Float.Ieee.{fits};
-ghost use Rattle.limits.specs.Limits.{most_events};
+ghost use Rattle.arrayvec.specs.ArrayVec.{array_vec_len};
+ghost use Rattle.limits.specs.Limits.{most_events, most_boundaries};
 ghost use Rattle.binary64.specs.Lists.{all};
 ghost use Rattle.protocol.specs.Events.{instants, boundary_times, boundaries as boundariesOf};
-ghost use Rattle.events.specs.Packed.{packed};
 
-use events::{Reals, Words};
+use arrayvec::ArrayVec;
+use limits::BOUNDARIES;
 use protocol::{Event, Window};
 
-// The event's time, and an infusion's end, from place at on; the place behind them.
-fn lay_event(event: Event, bounds: &mut [f64], at: usize) -> usize
-    requires { at + 2 ≤ length bounds.old }
-    ensures { (result ≤ at + 2) × (length bounds.new ≡ length bounds.old)
-        × (take result bounds.new ≡ take at bounds.old ++ instants event) }
+pub type Boundaries = ArrayVec<f64, BOUNDARIES>;
+
+// The event's time, and an infusion's end.
+fn lay_event(event: &Event, bounds: &mut Boundaries)
+    requires { array_vec_len bounds.old + 2 ≤ most_boundaries }
+    ensures { (bounds.new.items ≡ bounds.old.items ++ instants event.now)
+        × (array_vec_len bounds.new ≤ array_vec_len bounds.old + 2) }
 {
-    bounds[at] = events::time_of(event);
-    match event {
-        Event::Bolus { .. } => at + 1,
-        Event::Infusion { time, duration, .. } => {
-            bounds[at + 1] = time + duration;
-            at + 2
-        }
-        Event::Reset { .. } => at + 1,
+    bounds.push(event.time());
+    if let Event::Infusion { time, duration, .. } = event {
+        bounds.push(*time + *duration);
     }
 }
 
-// Start, end, and each event's time and end; how many.
-fn lay(window: Window, reals: &Reals, words: &Words, count: usize, bounds: &mut [f64]) -> usize
-    requires { (count ≤ most_events) × (2 + 2 * count ≤ length bounds.old) }
-    ensures { (result ≤ length bounds.new) × (take result bounds.new
-        ≡ boundary_times window.start window.end (packed reals.now words.now count)) }
+// Start, end, and each event's time and end.
+fn lay(window: Window, events: &[Event]) -> Boundaries
+    requires { length events.now ≤ most_events }
+    ensures { result.items ≡ boundary_times window.start window.end events.now }
 {
-    bounds[0] = window.start;
-    bounds[1] = window.end;
-    let mut n = 2usize;
-    for k in 0..count {
-        n = lay_event(events::event_at(reals, words, k), bounds, n);
+    let mut bounds = Boundaries::new();
+    bounds.push(window.start);
+    bounds.push(window.end);
+    for event in events {
+        lay_event(event, &mut bounds);
     }
-    n
+    bounds
 }
 
-// The boundaries, in order and each once; how many.
-pub fn boundaries(
-    window: Window,
-    reals: &Reals,
-    words: &Words,
-    count: usize,
-    bounds: &mut [f64],
-) -> usize
-    requires { (count ≤ most_events) × (2 + 2 * count ≤ length bounds.old) }
-    ensures { (result ≤ length bounds.new) × (take result bounds.new
-        ≡ boundariesOf window (packed reals.now words.now count))
-        × T (all (fits binary64) (boundary_times window.start window.end (packed reals.now words.now count))) }
+// The boundaries, in order and each once.
+pub fn boundaries(window: Window, events: &[Event]) -> Boundaries
+    requires { length events.now ≤ most_events }
+    ensures { (result.items ≡ boundariesOf window events.now)
+        × T (all (fits binary64) (boundary_times window.start window.end events.now)) }
 {
-    let n = lay(window, reals, words, count, bounds);
-    events_times::sorted_unique(&mut bounds[..n])
+    let mut bounds = lay(window, events);
+    let kept = events_times::sorted_unique(bounds.as_mut_slice());
+    bounds.truncate(kept);
+    bounds
 }

@@ -1,8 +1,7 @@
 -- Events laid out as 64-bit words, six to an event, whose fields they are. 01, "The sheet and its printout". Definitions only.
-use Rattle.std.specs.Prelude.{Bool, cond, ◌&&◌, List, ℕ, ◌+◌, ◌*◌, ◌/◌, ◌%◌, eqb, ltb, length, get_or}
+use Rattle.std.specs.Prelude.{Bool, ◌&&◌, List, ℕ, ◌+◌, ◌*◌, ◌/◌, ◌%◌, eqb, length, get_or}
 use Rattle.limits.specs.Limits.{event_size}
 use Rattle.matrix.specs.Matrix.{tabulate, all_to}
-use Rattle.protocol.specs.Events.{no_event}
 use Rattle.protocol.specs.declared.Event.{Event}
 use Rattle.events_layout.specs.Fields.{words_listed, event_from}
 
@@ -30,7 +29,3 @@ event_of ws i = event_from (word_at ws i 0) (word_at ws i 1) (word_at ws i 2) (w
 unfoldable pub events_of : List ℕ → List Event
 unfolding event_of
 events_of ws = tabulate (event_count ws) (event_of ws)
-
-unfoldable pub event_or_none : List ℕ → ℕ → Event
-unfolding event_of
-event_or_none ws i = cond (ltb i (event_count ws)) (event_of ws i) no_event

@@ -1,14 +1,37 @@
 // Events laid out as 64-bit words, six to an event: kind, time, target, amount or value, duration or order, stops.
 #![tactic(auto)]
 
-ghost use Rattle.std.specs.Prelude.{◌≡◌, ◌+◌, ◌*◌, ◌≤◌, ◌<◌, length};
+ghost use Rattle.std.specs.Prelude.{◌≡◌, List, ℕ, ◌+◌, ◌*◌, ◌^◌, ◌≤◌, ◌<◌, length, get_or, take};
 ghost use Rattle.limits.specs.Limits.{most_events, event_size};
 ghost use Rattle.events_layout.specs.Fields.{words_listed, event_from};
-ghost use Rattle.matrix.specs.Matrix.{tabulate};
-ghost use Rattle.events_layout.specs.Layout.{word_at, event_fits, events_fit, event_of, event_or_none};
+ghost use Rattle.events_layout.specs.Layout.{word_at, event_fits, events_fit, event_of, events_of};
 
 use limits::{EVENT_SIZE, EVENTS};
-use protocol::Event;
+use protocol::{Event, EventList};
+
+// 64-bit words, however they are stored.
+pub trait Words {
+    ghost words: { Self → List ℕ };
+
+    fn count(&self) -> usize
+        ensures { result ≡ length (words self.now) };
+
+    fn word(&self, i: usize) -> u64
+        requires { i < length (words self.now) }
+        ensures { result ≡ get_or (words self.now) i 0 };
+}
+
+impl<'a> Words for &'a [u64] {
+    ghost words = { λ s. s.now };
+
+    fn count(&self) -> usize {
+        self.len()
+    }
+
+    fn word(&self, i: usize) -> u64 {
+        self[i]
+    }
+}
 
 // Whether a kind, and a reset's order and `stops`, are among the listed values.
 pub fn words_listed(kind: u64, order: u64, stops: u64) -> bool
@@ -48,16 +71,16 @@ pub fn event_from(kind: u64, time: u64, target: u64, amount: u64, last: u64, sto
 }
 
 // Word k of event i.
-fn word_at(words: &[u64], i: usize, k: usize) -> u64
-    requires { (event_size * i + event_size ≤ length words.now) × (k < event_size) }
-    ensures { result ≡ word_at words.now i k }
+fn word_at<W: Words + Copy>(words: W, i: usize, k: usize) -> u64
+    requires { (event_size * i + event_size ≤ length (W.words words)) × (length (W.words words) < 2 ^ 64) × (k < event_size) }
+    ensures { result ≡ word_at (W.words words) i k }
 {
-    words[EVENT_SIZE * i + k]
+    words.word(EVENT_SIZE * i + k)
 }
 
-fn event_fits(words: &[u64], i: usize) -> bool
-    requires { event_size * i + event_size ≤ length words.now }
-    ensures { result ≡ event_fits words.now i }
+fn event_fits<W: Words + Copy>(words: W, i: usize) -> bool
+    requires { (event_size * i + event_size ≤ length (W.words words)) × (length (W.words words) < 2 ^ 64) }
+    ensures { result ≡ event_fits (W.words words) i }
 {
     words_listed(
         word_at(words, i, 0),
@@ -67,22 +90,25 @@ fn event_fits(words: &[u64], i: usize) -> bool
 }
 
 // Whether the words are whole events, each of listed values.
-pub fn events_fit(words: &[u64]) -> bool
-    ensures { result ≡ events_fit words.now }
+pub fn events_fit<W: Words + Copy>(words: W) -> bool
+    ensures { result ≡ events_fit (W.words words) }
 {
-    let count = words.len() / EVENT_SIZE;
+    let total = words.count();
+    let count = total / EVENT_SIZE;
     let mut ok = true;
     for i in 0..count {
         ok = ok & event_fits(words, i);
     }
-    (words.len() % EVENT_SIZE == 0) & ok
+    (total % EVENT_SIZE == 0) & ok
 }
 
 // Event i, whose words are there.
-pub fn event_of(words: &[u64], i: usize) -> Event
-    requires { event_size * i + event_size ≤ length words.now }
-    ensures { result ≡ event_of words.now i }
+pub fn event_of<W: Words + Copy>(words: W, i: usize) -> Event
+    requires { event_size * i + event_size ≤ length (W.words words) }
+    ensures { result ≡ event_of (W.words words) i }
 {
+    // That there is a count says that each place is a usize.
+    let _count = words.count();
     event_from(
         word_at(words, i, 0),
         word_at(words, i, 1),
@@ -93,24 +119,14 @@ pub fn event_of(words: &[u64], i: usize) -> Event
     )
 }
 
-fn event_or_none(words: &[u64], i: usize) -> Event
-    ensures { result ≡ event_or_none words.now i }
+// The events, as many as a list holds: those behind are left out.
+pub fn events_of<W: Words + Copy>(words: W) -> EventList
+    ensures { result.items ≡ take most_events (events_of (W.words words)) }
 {
-    if i < words.len() / EVENT_SIZE {
-        event_of(words, i)
-    } else {
-        events::no_event()
-    }
-}
-
-// The events, in the first places; events past the array's end are left out.
-pub fn events_of(words: &[u64]) -> [Event; EVENTS]
-    ensures { result ≡ tabulate most_events (event_or_none words.now) }
-{
-    let none = events::no_event();
-    let mut list = [none; EVENTS];
-    for i in 0..EVENTS {
-        list[i] = event_or_none(words, i);
+    let count = (words.count() / EVENT_SIZE).min(EVENTS);
+    let mut list = EventList::new();
+    for i in 0..count {
+        list.push(event_of(words, i));
     }
     list
 }

@@ -4,18 +4,12 @@
 ghost use Rattle.std.specs.Prelude.{◌≡◌, ◌+◌, ◌≤◌, length};
 ghost use Rattle.limits.specs.Limits.{event_size};
 ghost use Rattle.printout_numbers.specs.Written.{Wrote};
-ghost use Rattle.events.specs.Packed.{bit};
 ghost use Rattle.events_words.specs.Words.{event_words};
 
 use limits::EVENT_SIZE;
 use protocol::Event;
 
-fn flag(b: bool) -> u64
-    ensures { result ≡ bit b }
-{
-    if b { 1 } else { 0 }
-}
-
+#[tactic(auto, unfolding(crate::specs::Words::event_words))]
 fn words_of(event: Event) -> [u64; EVENT_SIZE]
     ensures { result ≡ event_words event }
 {
@@ -56,20 +50,10 @@ fn words_of(event: Event) -> [u64; EVENT_SIZE]
             printout_numbers::bits(time),
             target as u64,
             printout_numbers::bits(value),
-            order as u64,
-            flag(stops),
+            u64::from(order),
+            u64::from(stops),
         ],
     }
-}
-
-fn put_words(out: &mut [u64], at: usize, words: &[u64; EVENT_SIZE]) -> usize
-    requires { (at + event_size ≤ length out.old) × (length words.now ≡ event_size) }
-    ensures { Wrote words.now at out.old result out.new }
-{
-    for i in 0..EVENT_SIZE {
-        out[at + i] = words[i];
-    }
-    at + EVENT_SIZE
 }
 
 // The event's words from place at on; the place behind them.
@@ -78,5 +62,7 @@ pub fn put_event(out: &mut [u64], at: usize, event: Event) -> usize
     ensures { Wrote (event_words event) at out.old result out.new }
 {
     let words = words_of(event);
-    put_words(out, at, &words)
+    let end = at + EVENT_SIZE;
+    out[at..end].copy_from_slice(&words);
+    end
 }

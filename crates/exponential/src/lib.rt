@@ -5,11 +5,12 @@
 ghost use Rattle.std.specs.Prelude.{◌≡◌, ◌≤◌, length};
 ghost use Rattle.limits.specs.Limits.{block};
 ghost use Rattle.matrix.specs.Arrays.{lead, Holds};
-ghost use Rattle.exponential.specs.Answers.{exponential_result};
 ghost use Rattle.matrix.specs.Exponential.{taylor as taylorOf, exponential as exponentialOf, scheme};
+ghost use Rattle.refusal.specs.Numbers.{outcome_with};
+ghost use Rattle.exponential.specs.Answers.{exponential_of};
 
-use exponential_norm::Halvings;
 use limits::BLOCK;
+use refusal::Refusal;
 
 fn taylor(a: [[f64; BLOCK]; BLOCK], m: usize, count: usize) -> [[f64; BLOCK]; BLOCK]
     requires { (m ≤ block) × (length a ≡ block) }
@@ -22,35 +23,22 @@ fn taylor(a: [[f64; BLOCK]; BLOCK], m: usize, count: usize) -> [[f64; BLOCK]; BL
     )
 }
 
-// What the exponential of a block gives beside the propagator: the halvings that it took, or why there is none.
+// The exponential of a block, and the halvings that it took.
 #[derive(Clone, Copy)]
-pub enum Outcome {
-    Done(usize),
-    NormNotFinite,
-    TooManyHalvings,
-    NotFinite,
+pub struct Propagator {
+    pub halvings: usize,
+    pub matrix: [[f64; BLOCK]; BLOCK],
 }
 
-// The exponential of the leading m by m part of a, into propagator. A refusal leaves propagator as it was.
-pub fn exponential(
-    a: [[f64; BLOCK]; BLOCK],
-    m: usize,
-    propagator: &mut [[f64; BLOCK]; BLOCK],
-) -> Outcome
+// The exponential of the leading m by m part of a.
+pub fn exponential(a: [[f64; BLOCK]; BLOCK], m: usize) -> Result<Propagator, Refusal>
     requires { (m ≤ block) × (length a ≡ block) }
-    ensures { exponential_result result (lead m propagator.new) ≡ exponentialOf scheme m (lead m a) }
+    ensures { outcome_with (exponential_of m) result ≡ exponentialOf scheme m (lead m a) }
 {
-    let count = exponential_norm::count_halvings(exponential_norm::norm(&a, m), 0.5, 60);
-    match count {
-        Halvings::NormNotFinite => Outcome::NormNotFinite,
-        Halvings::TooMany => Outcome::TooManyHalvings,
-        Halvings::Count(c) => {
-            let p = taylor(a, m, c);
-            if !exponential_norm::all_finite(&p, m) {
-                return Outcome::NotFinite;
-            }
-            *propagator = p;
-            Outcome::Done(c)
-        }
+    let halvings = exponential_norm::count_halvings(exponential_norm::norm(&a, m), 0.5, 60)?;
+    let matrix = taylor(a, m, halvings);
+    if !exponential_norm::all_finite(&matrix, m) {
+        return Err(Refusal::AmountNotFinite);
     }
+    Ok(Propagator { halvings, matrix })
 }

@@ -2,52 +2,45 @@
 // Matrices are arrays of arrays, of which the leading m by m part is in use.
 #![tactic(auto)]
 
-ghost use Rattle.std.specs.Prelude.{◌≡◌, ◌≤◌, ◌<◌};
+ghost use Rattle.std.specs.Prelude.{◌≡◌, ◌≤◌};
 ghost use Rattle.std.specs.Float.Ieee.Scale.{finite};
-ghost use Rattle.limits.specs.Limits.{block};
-ghost use Rattle.matrix.specs.Matrix.{at, all_to};
-ghost use Rattle.matrix.specs.Exponential.{row_sum as rowSumOfMagnitudes, norm_to, halving_count, all_finite};
-ghost use Rattle.exponential_norm.specs.Answers.{halvings_result};
+ghost use Rattle.binary64.specs.Doubles.{magnitude};
+ghost use Rattle.matrix.specs.Matrix.{cell, sum_to, all_to};
+ghost use Rattle.matrix.specs.Exponential.{norm_to, halving_count, all_finite};
+ghost use Rattle.refusal.specs.Numbers.{outcome_of};
 
-use limits::BLOCK;
+use refusal::Refusal;
 
-// The sum of the magnitudes in row i.
-fn row_sum(a: &[[f64; BLOCK]; BLOCK], m: usize, i: usize) -> f64
-    requires { (i < block) × (m ≤ block) }
-    ensures { result ≡ rowSumOfMagnitudes a.now m i }
+// The sum of the first m magnitudes of a row.
+fn row_sum<const N: usize>(row: &[f64; N], m: usize) -> f64
+    requires { m ≤ N }
+    ensures { result ≡ sum_to (λ j. magnitude (cell row.now j)) m }
 {
     let mut sum = -0.0f64;
-    for j in 0..m {
-        sum = sum + binary64::abs(a[i][j]);
+    for x in &row[..m] {
+        sum = sum + binary64::abs(*x);
     }
     sum
 }
 
 // The largest row sum.
-pub fn norm(a: &[[f64; BLOCK]; BLOCK], m: usize) -> f64
-    requires { m ≤ block }
+pub fn norm<const N: usize>(a: &[[f64; N]; N], m: usize) -> f64
+    requires { m ≤ N }
     ensures { result ≡ norm_to a.now m m }
 {
     let mut largest = 0.0f64;
-    for i in 0..m {
-        largest = binary64_order::max(largest, row_sum(a, m, i));
+    for row in &a[..m] {
+        largest = binary64_order::max(largest, row_sum(row, m));
     }
     largest
 }
 
 // How many halvings bring a norm to the threshold or below.
-#[derive(Clone, Copy)]
-pub enum Halvings {
-    Count(usize),
-    NormNotFinite,
-    TooMany,
-}
-
-pub fn count_halvings(norm: f64, threshold: f64, most: usize) -> Halvings
-    ensures { halvings_result result ≡ halving_count threshold most norm }
+pub fn count_halvings(norm: f64, threshold: f64, most: usize) -> Result<usize, Refusal>
+    ensures { outcome_of result ≡ halving_count threshold most norm }
 {
     if !binary64::is_finite(norm) {
-        return Halvings::NormNotFinite;
+        return Err(Refusal::NormNotFinite);
     }
     let mut left = norm;
     let mut n = 0usize;
@@ -56,32 +49,30 @@ pub fn count_halvings(norm: f64, threshold: f64, most: usize) -> Halvings
             break n;
         }
         if n == most {
-            return Halvings::TooMany;
+            return Err(Refusal::TooManyHalvings);
         }
         left = left * 0.5;
         n += 1;
     };
-    Halvings::Count(count)
+    Ok(count)
 }
 
-fn row_finite(a: &[[f64; BLOCK]; BLOCK], m: usize, i: usize) -> bool
-    requires { (i < block) × (m ≤ block) }
-    ensures { result ≡ all_to (λ j. finite (at a.now i j)) m }
+// Whether the first m numbers of a row are finite.
+fn row_finite<const N: usize>(row: &[f64; N], m: usize) -> bool
+    requires { m ≤ N }
+    ensures { result ≡ all_to (λ j. finite (cell row.now j)) m }
 {
-    let mut ok = true;
-    for j in 0..m {
-        ok = ok & binary64::is_finite(a[i][j]);
-    }
-    ok
+    binary64::all_finite(&row[..m])
 }
 
-pub fn all_finite(a: &[[f64; BLOCK]; BLOCK], m: usize) -> bool
-    requires { m ≤ block }
+pub fn all_finite<const N: usize>(a: &[[f64; N]; N], m: usize) -> bool
+    requires { m ≤ N }
     ensures { result ≡ all_finite m a.now }
 {
-    let mut ok = true;
-    for i in 0..m {
-        ok = ok & row_finite(a, m, i);
+    for row in &a[..m] {
+        if !row_finite(row, m) {
+            return false;
+        }
     }
-    ok
+    true
 }

@@ -1,3 +1,1 @@
-pub mod Cases
-pub mod Copies
 pub mod Events

@@ -1,136 +1,97 @@
 // One event of a cycle folded: an infusion its pieces within one period, any other event itself; 16, 17, 18, 13.
 #![tactic(auto)]
 
-ghost use Rattle.std.specs.Prelude.{◌≡◌, ◌≤◌, ◌+◌, ◌<◌, length, [], ◌∷◌};
+ghost use Rattle.std.specs.Prelude.{◌≡◌, ◌≤◌, ◌+◌};
+ghost use Rattle.arrayvec.specs.ArrayVec.{array_vec_len};
 ghost use Rattle.limits.specs.Limits.{most_events};
-ghost use Rattle.events.specs.Packed.{packed, event_at};
 ghost use Rattle.protocol.specs.declared.Event.TheVariants.{Infusion};
+ghost use Rattle.refusal.specs.Numbers.{result_of};
 ghost use Rattle.cycle.specs.Fold.{pieces as pieces_of, time_passes, with_event};
-ghost use Rattle.fold_stop.specs.Appended.{Replies};
-ghost use Rattle.refusal.specs.Result.{done};
-ghost use Rattle.fold_event.specs.Folds.{Folds};
+ghost use Rattle.fold_stop.specs.Appended.{behind};
 
-use events::{Reals, Words};
-use fold_stop::Folding;
-use protocol::{Event, Window};
-use refusal::{Refusal, Reply};
+use fold_infusion::CycleInfusion;
+use protocol::{Event, EventList, Window};
+use refusal::Refusal;
 
-// The pieces of an infusion of the list of count events: 17, 18.
+// The pieces of an infusion of the list, behind the list so far: 17, 18.
 pub fn infusion(
     window: Window,
-    reals: &Reals,
-    words: &Words,
-    count: usize,
+    events: &[Event],
     time: f64,
     target: usize,
     amount: f64,
     duration: f64,
-    out_reals: &mut Reals,
-    out_words: &mut Words,
-    at: usize,
-) -> Folding
-    requires { (count ≤ most_events) × (at + 3 ≤ most_events) × (length out_reals.old ≡ most_events) × (length out_words.old ≡ most_events) }
-    ensures { Replies out_reals.old out_words.old at out_reals.new out_words.new result
-        (pieces_of window (packed reals.now words.now count) (Infusion time target amount duration)) }
+    out: &mut EventList,
+) -> Result<(), Refusal>
+    requires { array_vec_len out.old + 3 ≤ most_events }
+    ensures pieces { result_of result out.new.items ≡ behind out.old.items
+        (pieces_of window events.now (Infusion time target amount duration)) }
+    ensures room { array_vec_len out.new ≤ array_vec_len out.old + 3 }
 {
     if !fold_stop::infusion_passes(time, amount, duration) {
-        return fold_stop::refused(Refusal::CycleInfusion);
+        return Err(Refusal::CycleInfusion);
     }
     let period = window.end - window.start;
-    let until = fold_stop::stop_of(period, time, target, time + duration, reals, words, count);
-    let stops = fold_stop::has_stop(target, reals, words, count);
-    fold_infusion::infusion_pieces(
-        stops,
+    let until = fold_stop::stop_of(period, time, target, time + duration, events);
+    let infusion = CycleInfusion {
         window,
         time,
         target,
-        amount / duration,
-        until - time,
-        out_reals,
-        out_words,
-        at,
-    )
+        rate: amount / duration,
+    };
+    infusion.push_pieces(fold_stop::has_stop(target, events), until - time, out)
 }
 
-// The event as it is, behind the list so far.
-fn copied(event: Event, reals: &mut Reals, words: &mut Words, at: usize) -> Folding
-    requires { (at + 3 ≤ most_events) × (length reals.old ≡ most_events) × (length words.old ≡ most_events) }
-    ensures { Replies reals.old words.old at reals.new words.new result (done (event ∷ [])) }
-{
-    events_packing::put(event, reals, words, at);
-    Folding {
-        reply: Reply::Done,
-        count: at + 1,
-    }
-}
-
-// The pieces of one event of the list of count events.
+// The pieces of one event of the list, behind the list so far.
 pub fn pieces(
     window: Window,
-    reals: &Reals,
-    words: &Words,
-    count: usize,
-    event: Event,
-    out_reals: &mut Reals,
-    out_words: &mut Words,
-    at: usize,
-) -> Folding
-    requires { (count ≤ most_events) × (at + 3 ≤ most_events) × (length out_reals.old ≡ most_events) × (length out_words.old ≡ most_events) }
-    ensures { Replies out_reals.old out_words.old at out_reals.new out_words.new result
-        (pieces_of window (packed reals.now words.now count) event) }
+    events: &[Event],
+    event: &Event,
+    out: &mut EventList,
+) -> Result<(), Refusal>
+    requires { array_vec_len out.old + 3 ≤ most_events }
+    ensures pieces { result_of result out.new.items ≡ behind out.old.items (pieces_of window events.now event.now) }
+    ensures room { array_vec_len out.new ≤ array_vec_len out.old + 3 }
 {
     match event {
-        Event::Bolus { .. } => copied(event, out_reals, out_words, at),
         Event::Infusion {
             time,
             target,
             amount,
             duration,
-        } => infusion(
-            window, reals, words, count, time, target, amount, duration, out_reals, out_words, at,
-        ),
-        Event::Reset { .. } => copied(event, out_reals, out_words, at),
+        } => infusion(window, events, *time, *target, *amount, *duration, out),
+        Event::Bolus { .. } | Event::Reset { .. } => {
+            out.push(*event);
+            Ok(())
+        }
     }
 }
 
 // Finite and in [start, end).
+#[tactic(auto, unfolding(cycle::specs::Fold::time_passes))]
 fn time_passes(window: Window, time: f64) -> bool
     ensures { result ≡ time_passes window time }
 {
     binary64::is_finite(time) & ((window.start <= time) & (time < window.end))
 }
 
-// The event at place i, behind the list so far: 16, 17, 18, 13.
+// One event of the list, behind the list so far: 16, 17, 18, 13.
 pub fn with_event(
     window: Window,
-    reals: &Reals,
-    words: &Words,
-    count: usize,
-    i: usize,
-    out_reals: &mut Reals,
-    out_words: &mut Words,
-    at: usize,
-) -> Folding
-    requires { (count ≤ most_events) × (i < most_events) × (at + 3 ≤ most_events) × (length out_reals.old ≡ most_events)
-        × (length out_words.old ≡ most_events) }
-    ensures { Folds (at + 3) out_reals.new out_words.new result
-        (with_event window (packed reals.now words.now count) (event_at reals.now words.now i)
-        (packed out_reals.old out_words.old at)) }
+    events: &[Event],
+    event: &Event,
+    out: &mut EventList,
+) -> Result<(), Refusal>
+    requires { array_vec_len out.old + 3 ≤ most_events }
+    ensures folded { result_of result out.new.items ≡ with_event window events.now event.now out.old.items }
+    ensures room { array_vec_len out.new ≤ array_vec_len out.old + 3 }
 {
-    let event = events::event_at(reals, words, i);
-    if !time_passes(window, events::time_of(event)) {
-        return fold_stop::refused(Refusal::CycleEvent);
+    if !time_passes(window, event.time()) {
+        return Err(Refusal::CycleEvent);
     }
-    let folding = pieces(window, reals, words, count, event, out_reals, out_words, at);
-    let reply = folding.reply;
-    match reply {
-        Reply::Refused(refusal) => fold_stop::refused(refusal),
-        Reply::Done => {
-            let most = window.events;
-            if folding.count > most {
-                return fold_stop::refused(Refusal::EventBudget);
-            }
-            folding
-        }
+    pieces(window, events, event, out)?;
+    if out.len() > window.events {
+        return Err(Refusal::EventBudget);
     }
+    Ok(())
 }

@@ -1,2 +1,1 @@
-pub mod Appending
-pub mod Loops
+pub mod Tests

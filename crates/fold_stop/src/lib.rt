@@ -1,33 +1,12 @@
-// The reply of a fold, whether an infusion of a cycle passes, and its earliest stop among the resets of a list.
-// The list so far stands packed in the first `at` places of two arrays, and what a fold gives goes behind it.
+// Whether an infusion of a cycle passes, and its earliest stop among the resets of a list.
 #![tactic(auto)]
 
-ghost use Rattle.std.specs.Prelude.{◌≡◌, cond, ◌≤◌};
-ghost use Rattle.limits.specs.Limits.{most_events};
+ghost use Rattle.std.specs.Prelude.{◌≡◌, cond};
 ghost use Rattle.cycle.specs.Fold.{infusion_passes, stopping as stoppingOf, next_time, earlier as earlierOf, stop_of};
 ghost use Rattle.binary64.specs.Lists.{any};
 ghost use Rattle.protocol.specs.Events.{time as timeOf};
-ghost use Rattle.events.specs.Packed.{packed};
 
-use events::{Reals, Words};
 use protocol::Event;
-use refusal::{Refusal, Reply};
-
-// The reply, and how many places the list takes; 0 at a refusal.
-#[derive(Clone, Copy)]
-pub struct Folding {
-    pub reply: Reply,
-    pub count: usize,
-}
-
-pub fn refused(refusal: Refusal) -> Folding
-    ensures { (result.reply ≡ Reply.Refused refusal) × (result.count ≡ 0) }
-{
-    Folding {
-        reply: Reply::Refused(refusal),
-        count: 0,
-    }
-}
 
 // Whether duration, amount and stop pass 17.
 pub fn infusion_passes(time: f64, amount: f64, duration: f64) -> bool
@@ -39,8 +18,9 @@ pub fn infusion_passes(time: f64, amount: f64, duration: f64) -> bool
 }
 
 // A stopping reset on the target.
-pub fn stopping(target: usize, event: Event) -> bool
-    ensures { result ≡ stoppingOf target event }
+#[tactic(auto, unfolding(cycle::specs::Fold::stopping))]
+pub fn stopping(target: usize, event: &Event) -> bool
+    ensures { result ≡ stoppingOf target event.now }
 {
     match event {
         Event::Bolus { .. } => false,
@@ -49,7 +29,7 @@ pub fn stopping(target: usize, event: Event) -> bool
             target: j,
             stops,
             ..
-        } => stops & (target == j),
+        } => *stops & (target == *j),
     }
 }
 
@@ -72,49 +52,29 @@ pub fn earlier(time: f64, next: f64, stop: f64) -> f64
 }
 
 // Whether the list has a stopping reset on the target.
-pub fn has_stop(target: usize, reals: &Reals, words: &Words, count: usize) -> bool
-    requires { count ≤ most_events }
-    ensures { result ≡ any (stoppingOf target) (packed reals.now words.now count) }
+pub fn has_stop(target: usize, events: &[Event]) -> bool
+    ensures { result ≡ any (stoppingOf target) events.now }
 {
-    let mut found = false;
-    for k in 0..count {
-        found = found | stopping(target, events::event_at(reals, words, k));
-    }
-    found
+    events.iter().any(|event| stopping(target, event))
 }
 
 // The stop so far, or the event's next time if it is an earlier stopping reset.
-fn stopped_by(period: f64, time: f64, target: usize, stop: f64, event: Event) -> f64
-    ensures { result ≡ cond (stoppingOf target event) (earlierOf time (next_time period time (timeOf event)) stop) stop }
+fn stopped_by(period: f64, time: f64, target: usize, stop: f64, event: &Event) -> f64
+    ensures { result ≡ cond (stoppingOf target event.now) (earlierOf time (next_time period time (timeOf event.now)) stop) stop }
 {
     if stopping(target, event) {
-        return earlier(time, next_time(period, time, events::time_of(event)), stop);
+        return earlier(time, next_time(period, time, event.time()), stop);
     }
     stop
 }
 
 // The earliest of `until` and the next stopping resets on the target.
-pub fn stop_of(
-    period: f64,
-    time: f64,
-    target: usize,
-    until: f64,
-    reals: &Reals,
-    words: &Words,
-    count: usize,
-) -> f64
-    requires { count ≤ most_events }
-    ensures { result ≡ stop_of period time target until (packed reals.now words.now count) }
+pub fn stop_of(period: f64, time: f64, target: usize, until: f64, events: &[Event]) -> f64
+    ensures { result ≡ stop_of period time target until events.now }
 {
     let mut stop = until;
-    for k in 0..count {
-        stop = stopped_by(
-            period,
-            time,
-            target,
-            stop,
-            events::event_at(reals, words, k),
-        );
+    for event in events {
+        stop = stopped_by(period, time, target, stop, event);
     }
     stop
 }

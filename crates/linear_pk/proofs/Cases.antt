@@ -1,4 +1,5 @@
 -- The definitions case by case, in the words of the code.
+use Rattle.std.specs.Prelude.{Option}
 use mathlib.Core.Path.{◌≡◌, sym}
 use mathlib.Core.Bool.{Bool, true, false, ◌&&◌}
 use mathlib.Core.List.{List}
@@ -17,7 +18,6 @@ use Rattle.linear_pk_interval.specs.Interval.{interval}
 use Rattle.linear_pk_values.specs.Concentrations.{concentrations as concentrationsOf}
 use Rattle.linear_pk.specs.LinearPk.{state_count, sound, advance, concentrations, bind, passes, parameters_pass, kernel_of, matrix_finite, new, padded}
 use Rattle.linear_pk.specs.declared.kernel.LinearPk.{LinearPk}
-use Rattle.linear_pk_values.specs.declared.Absorption.{Absorption}
 
 -- ---- `advance`
 module _ (s : Scheme) (k : LinearPk) (x r : List Float) (d : Float) where
@@ -51,7 +51,7 @@ module _ (k : LinearPk) (x : List Float) where
   bind-sound h e = rw (h, ← e)
 
 -- ---- `new`
-module _ (cl : Float) (vs qs : List Float) (a : Absorption) where
+module _ (cl : Float) (vs qs : List Float) (a : Option Float) where
   pub new-refused : passes cl vs qs a ≡ false → new cl vs qs a ≡ refused 1
   unfolding new
   new-refused h = rw h

@@ -1,4 +1,5 @@
 -- A kernel that `new` makes passes the kernel's own test: the volumes that `new` tests are those in use.
+use Rattle.std.specs.Prelude.{Option}
 use mathlib.Core.Path.{◌≡◌, refl, sym, ap, ◌∙◌}
 use mathlib.Core.Bool.{Bool, true, false, ◌&&◌}
 use mathlib.Core.List.{List, [], ◌∷◌}
@@ -14,7 +15,6 @@ use Rattle.binary64.specs.Doubles.{nonnegative, positive}
 use Rattle.binary64.specs.Lists.{all}
 use Rattle.refusal.specs.Result.{refused, done, and_then, unless}
 use Rattle.matrix.specs.Matrix.{tabulate, tabulate_from}
-use Rattle.linear_pk_values.specs.declared.Absorption.{Absorption}
 use Rattle.linear_pk.specs.declared.kernel.LinearPk.{LinearPk}
 use Rattle.linear_pk.specs.LinearPk.{volumes_pass, matrix_finite, sound, kernel_of, passes, parameters_pass, new, padded_cell, padded}
 use Rattle.linear_pk.proofs.Counted.{and_first, and_second, volumes_by}
@@ -41,7 +41,7 @@ not_made q = let z : ◌≡◌ {A = ℕ} 0 1 = cc in omega arith
 same-made : {A : Type 0} {a b : A} → done a ≡ done b → a ≡ b
 same-made q = cc
 
-module _ (cl : Float) (vs qs : List Float) (a : Absorption) where
+module _ (cl : Float) (vs qs : List Float) (a : Option Float) where
   made_volumes : passes cl vs qs a ≡ true → volumes_pass (kernel_of cl vs qs a) ≡ true
   unfolding passes parameters_pass kernel_of
   made_volumes h =

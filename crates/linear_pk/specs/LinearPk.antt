@@ -1,6 +1,6 @@
 -- 01, "Amounts and concentrations": the mammillary model (one to three compartments, an optional depot). Its rates are in `linear_pk_mammillary/specs/Rates.antt`,
 -- their solution over an interval in `linear_pk_interval/specs/Interval.antt`, amounts by volume in `linear_pk_values/specs/Concentrations.antt`.
-use Rattle.std.specs.Prelude.{Bool, false, ◌&&◌, cond, List, ℕ, ◌+◌, ◌-◌, ◌*◌, eqb, ltb, leb, length, replicate, take, Float}
+use Rattle.std.specs.Prelude.{Bool, false, ◌&&◌, cond, List, ℕ, ◌+◌, ◌-◌, ◌*◌, eqb, ltb, leb, length, replicate, take, Float, Option}
 use Rattle.std.specs.Float.Ieee.Scale.{finite}
 use Rattle.limits.specs.Limits.{states, most_volumes}
 use Rattle.binary64.specs.Doubles.{plus_zero, nonnegative, positive}
@@ -12,14 +12,13 @@ use Rattle.linear_pk_interval.specs.Interval.{entry, interval}
 pub use Rattle.linear_pk_mammillary.specs.Rates.{central, central_rate, peripheral_rate, padded_cell, padded_rate}
 unfoldable pub use Rattle.linear_pk_mammillary.specs.Rates.{diagonal_to, mammillary_rate, padded}
 use Rattle.linear_pk_values.specs.Concentrations.{concentrations as concentrationsOf}
-use Rattle.linear_pk_values.specs.declared.Absorption.{Absorption}
 pub use Rattle.linear_pk_values.specs.Parameters.{depot_of, absorbed}
 unfoldable pub use Rattle.linear_pk_values.specs.Parameters.{parameters_pass}
 use Rattle.linear_pk.specs.declared.kernel.LinearPk.{LinearPk}
 use Rattle.linear_pk.specs.declared.bind.BoundLinearPk.{BoundLinearPk}
 
 -- ---- the kernel as a value: places past the volumes and outside the n by n part hold +0
-unfoldable pub kernel_of : Float → List Float → List Float → Absorption → LinearPk
+unfoldable pub kernel_of : Float → List Float → List Float → Option Float → LinearPk
 kernel_of cl vs qs a = record {
   compartments = length vs;
   depot = depot_of a;
@@ -52,10 +51,10 @@ sound k = and_then (unless (volumes_pass k) 1 k) (λ k. unless (matrix_finite k)
 
 -- ---- `new`
 -- 1 to 3 volumes, one exchange fewer, and the values
-unfoldable pub passes : Float → List Float → List Float → Absorption → Bool
+unfoldable pub passes : Float → List Float → List Float → Option Float → Bool
 passes cl vs qs a = (ltb 0 (length vs) && leb (length vs) most_volumes) && (eqb (length qs) (length vs - 1) && parameters_pass cl vs qs a)
 
-unfoldable pub new : Float → List Float → List Float → Absorption → Result LinearPk
+unfoldable pub new : Float → List Float → List Float → Option Float → Result LinearPk
 new cl vs qs a = and_then (unless (passes cl vs qs a) 1 (kernel_of cl vs qs a)) (λ k. unless (matrix_finite k) 2 k)
 
 -- ---- `advance`
@@ -73,8 +72,5 @@ concentrations k x room =
     and_then (sound k) (λ _. concentrationsOf (state_count k) k.compartments k.depot k.volumes x room)
 
 -- ---- `bind`: initial amounts bound to a kernel
-abbrev pub no_bound : BoundLinearPk
-no_bound = record { kernel = no_kernel; initial = replicate states plus_zero }
-
 unfoldable pub bind : LinearPk → List Float → Result BoundLinearPk
 bind k x = and_then (sound k) (λ k. unless (amounts_pass (state_count k) x) 3 (record { kernel = k; initial = padded states x }))

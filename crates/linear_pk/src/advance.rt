@@ -7,31 +7,31 @@ ghost use Rattle.linear_pk.specs.LinearPk.{advance as advanceOf};
 
 use crate::kernel;
 use crate::kernel::LinearPk;
-use refusal::{Refusal, Reply};
+use refusal::Refusal;
 
 impl LinearPk {
     // The amounts after a duration at constant input rates, into the first cells of result, one for each state.
-    pub fn advance(self, amounts: &[f64], rates: &[f64], duration: f64, res: &mut [f64]) -> Reply
+    pub fn advance(
+        self,
+        amounts: &[f64],
+        rates: &[f64],
+        duration: f64,
+        res: &mut [f64],
+    ) -> Result<(), Refusal>
         ensures result_value { reply_number result ≡ number (advanceOf scheme self amounts.now rates.now duration (length res.old)) }
         ensures res_after { res.new ≡ slice_at_exit (advanceOf scheme self amounts.now rates.now duration
             (length res.old)) res.old }
     {
-        let sound = kernel::check(self);
-        match sound {
-            Reply::Refused(refusal) => Reply::Refused(refusal),
-            Reply::Done => {
-                let n = self.state_count();
-                if !(binary64::amounts_pass(n, amounts)
-                    & (binary64::amounts_pass(n, rates) & binary64::is_nonnegative(duration)))
-                {
-                    return Reply::Refused(Refusal::Argument);
-                }
-                if res.len() < n {
-                    return Reply::Refused(Refusal::ShortSlice);
-                }
-                let cells = self.matrix;
-                linear_pk_interval::interval(cells, n, amounts, rates, duration, res)
-            }
+        kernel::check(self)?;
+        let n = self.state_count();
+        if !(binary64::amounts_pass(n, amounts)
+            & (binary64::amounts_pass(n, rates) & binary64::is_nonnegative(duration)))
+        {
+            return Err(Refusal::Argument);
         }
+        if res.len() < n {
+            return Err(Refusal::ShortSlice);
+        }
+        linear_pk_interval::interval(self.matrix, n, amounts, rates, duration, res)
     }
 }

@@ -6,30 +6,23 @@ ghost use Rattle.linear_pk.specs.LinearPk.{concentrations as concentrationsOf};
 
 use crate::kernel;
 use crate::kernel::LinearPk;
-use refusal::Reply;
+use refusal::Refusal;
 
 impl LinearPk {
     // The concentrations of central and the peripherals, into the first cells of result.
-    pub fn concentrations(self, amounts: &[f64], res: &mut [f64]) -> Reply
+    pub fn concentrations(self, amounts: &[f64], res: &mut [f64]) -> Result<(), Refusal>
         ensures result_value { reply_number result ≡ number (concentrationsOf self amounts.now (length res.old)) }
         ensures res_after { res.new ≡ slice_at_exit (concentrationsOf self amounts.now (length res.old))
             res.old }
     {
-        let sound = kernel::check(self);
-        match sound {
-            Reply::Refused(refusal) => Reply::Refused(refusal),
-            Reply::Done => {
-                let n = self.state_count();
-                let volumes = self.volumes;
-                linear_pk_values::concentrations(
-                    n,
-                    self.compartments,
-                    self.depot,
-                    volumes,
-                    amounts,
-                    res,
-                )
-            }
-        }
+        kernel::check(self)?;
+        linear_pk_values::concentrations(
+            self.state_count(),
+            self.compartments,
+            self.depot,
+            self.volumes,
+            amounts,
+            res,
+        )
     }
 }

@@ -4,13 +4,10 @@ ghost use Rattle.limits.specs.Limits.{states, most_volumes};
 ghost use Rattle.binary64.specs.Doubles.{positive};
 ghost use Rattle.binary64.specs.Lists.{all};
 ghost use Rattle.linear_pk.specs.LinearPk.{state_count, volumes_pass, matrix_finite, sound, kernel_of, no_kernel, new as newOf};
-ghost use Rattle.refusal.specs.Result.{value_or};
-ghost use Rattle.refusal.specs.Numbers.{result_of};
+ghost use Rattle.refusal.specs.Numbers.{result_of, outcome_of};
 
-use binary64::Test;
 use limits::{RATE_CELLS, VOLUMES};
-use linear_pk_values::Absorption;
-use refusal::{Refusal, Reply};
+use refusal::Refusal;
 
 // States are the depot, if there is one, central, then the peripherals. The rate from state j to state i stands at place STATES·i + j.
 #[derive(Clone, Copy)]
@@ -49,7 +46,7 @@ fn all_positive(volumes: [f64; VOLUMES], count: usize) -> bool
     requires { count ≤ most_volumes }
     ensures { result ≡ all positive (take count volumes) }
 {
-    binary64::all_pass(Test::Positive, &volumes[..count])
+    binary64::all_positive(&volumes[..count])
 }
 
 // Whether there are 1 to 3 volumes, each finite and above 0.
@@ -64,23 +61,16 @@ fn volumes_pass(kernel: LinearPk) -> bool
 }
 
 // A kernel's own test: 1 by its volumes, 2 by a rate that is not finite.
-pub fn check(kernel: LinearPk) -> Reply
+pub fn check(kernel: LinearPk) -> Result<(), Refusal>
     ensures { result_of result kernel ≡ sound kernel }
 {
     if !volumes_pass(kernel) {
-        return Reply::Refused(Refusal::Parameters);
+        return Err(Refusal::Parameters);
     }
     if !matrix_finite(kernel) {
-        return Reply::Refused(Refusal::RateNotFinite);
+        return Err(Refusal::RateNotFinite);
     }
-    Reply::Done
-}
-
-// What `new` makes: the kernel, or zeros where it refuses.
-#[derive(Clone, Copy)]
-pub struct Made {
-    pub reply: Reply,
-    pub kernel: LinearPk,
+    Ok(())
 }
 
 // The kernel of a refusal: zeros.
@@ -97,33 +87,23 @@ pub fn none() -> LinearPk
     }
 }
 
-fn not_made(refusal: Refusal) -> Made
-    ensures { (result.reply ≡ Reply.Refused refusal) × (result.kernel ≡ no_kernel) }
-{
-    let kernel = none();
-    Made {
-        reply: Reply::Refused(refusal),
-        kernel,
-    }
-}
-
 // The kernel of parameters whose counts fit.
-fn kernel_of(clearance: f64, volumes: &[f64], exchange: &[f64], absorption: Absorption) -> LinearPk
+fn kernel_of(clearance: f64, volumes: &[f64], exchange: &[f64], absorption: Option<f64>) -> LinearPk
     requires { (length exchange.now + 1 ≡ length volumes.now) × (length volumes.now ≤ most_volumes) }
     ensures { result ≡ kernel_of clearance volumes.now exchange.now absorption }
 {
     let count = volumes.len();
-    let depot = linear_pk_values::has_depot(absorption);
+    let depot = absorption.is_some();
     let n = count + linear_pk_mammillary::central(depot);
     let cells = linear_pk_mammillary::matrix(
         clearance,
         volumes,
         exchange,
         depot,
-        linear_pk_values::absorbed(absorption),
+        absorption.unwrap_or(0.0),
         n,
     );
-    let list = linear_pk_mammillary::padded_volumes(volumes);
+    let list = linear_pk_mammillary::padded(volumes);
     LinearPk {
         compartments: count,
         depot,
@@ -134,30 +114,32 @@ fn kernel_of(clearance: f64, volumes: &[f64], exchange: &[f64], absorption: Abso
 
 impl LinearPk {
     // The kernel of a clearance, 1 to 3 volumes with central first, one exchange clearance for each further volume, and the absorption.
-    pub fn new(clearance: f64, volumes: &[f64], exchange: &[f64], absorption: Absorption) -> Made
-        ensures kernel_value { result_of result.reply result.kernel ≡ newOf clearance volumes.now exchange.now absorption }
-        ensures kernel_value_2 { result.kernel ≡ value_or (newOf clearance volumes.now exchange.now absorption) no_kernel }
+    pub fn new(
+        clearance: f64,
+        volumes: &[f64],
+        exchange: &[f64],
+        absorption: Option<f64>,
+    ) -> Result<LinearPk, Refusal>
+        ensures { outcome_of result ≡ newOf clearance volumes.now exchange.now absorption }
     {
         let count = volumes.len();
         if count == 0 {
-            return not_made(Refusal::Parameters);
+            return Err(Refusal::Parameters);
         }
         if count > VOLUMES {
-            return not_made(Refusal::Parameters);
+            return Err(Refusal::Parameters);
         }
         if exchange.len() != count - 1 {
-            return not_made(Refusal::Parameters);
+            return Err(Refusal::Parameters);
         }
         if !linear_pk_values::values_pass(clearance, volumes, exchange, absorption) {
-            return not_made(Refusal::Parameters);
+            return Err(Refusal::Parameters);
         }
         let kernel = kernel_of(clearance, volumes, exchange, absorption);
-        if !matrix_finite(kernel) {
-            return not_made(Refusal::RateNotFinite);
-        }
-        Made {
-            reply: Reply::Done,
-            kernel,
+        if matrix_finite(kernel) {
+            Ok(kernel)
+        } else {
+            Err(Refusal::RateNotFinite)
         }
     }
 }

@@ -6,5 +6,5 @@ mod bind;
 mod concentrations;
 mod kernel;
 
-pub use bind::{Bound, BoundLinearPk};
-pub use kernel::{LinearPk, Made, check, none};
+pub use bind::BoundLinearPk;
+pub use kernel::{LinearPk, check, none};

@@ -9,21 +9,15 @@ ghost use Rattle.refusal.specs.Numbers.{reply_number};
 ghost use Rattle.refusal.specs.Result.{number, slice_at_exit};
 ghost use Rattle.linear_pk_interval.specs.Interval.{propagated, interval as intervalOf};
 
-use binary64::Test;
-use exponential::Outcome;
 use limits::{BLOCK, RATE_CELLS};
-use refusal::{Refusal, Reply};
+use refusal::Refusal;
 
 // The values from the front of out; the cells behind them stay.
 pub fn lay(values: &[f64], out: &mut [f64])
     requires { length values.now ≤ length out.old }
     ensures { out.new ≡ values.now ++ drop (length values.now) out.old }
 {
-    let mut i = 0usize;
-    while i < values.len() {
-        out[i] = values[i];
-        i += 1;
-    }
+    out[..values.len()].copy_from_slice(values);
 }
 
 // The amounts after p, into result.
@@ -34,22 +28,22 @@ fn apply(
     rates: &[f64],
     duration: f64,
     res: &mut [f64],
-) -> Reply
+) -> Result<(), Refusal>
     requires { (n ≤ states) × (length amounts.now ≡ n) × (length rates.now ≡ n) × (n ≤ length res.old) }
     ensures result_value { reply_number result ≡ number (propagated n (lead (n + n) p.now) amounts.now rates.now duration) }
     ensures res_after { res.new ≡ slice_at_exit (propagated n (lead (n + n) p.now) amounts.now
         rates.now duration) res.old }
 {
     if !linear_pk_propagator::inputs_finite(rates, n, duration) {
-        return Reply::Refused(Refusal::AmountNotFinite);
+        return Err(Refusal::AmountNotFinite);
     }
     let list = linear_pk_propagator::amounts_after(p, n, amounts, rates, duration);
     let after = &list[..n];
-    if !binary64::all_pass(Test::Nonnegative, after) {
-        return Reply::Refused(Refusal::AmountNotFinite);
+    if !binary64::all_nonnegative(after) {
+        return Err(Refusal::AmountNotFinite);
     }
     lay(after, res);
-    Reply::Done
+    Ok(())
 }
 
 // The amounts of n states after a duration at constant input rates, into the first cells of result.
@@ -60,7 +54,7 @@ pub fn interval(
     rates: &[f64],
     duration: f64,
     res: &mut [f64],
-) -> Reply
+) -> Result<(), Refusal>
     requires { (n ≤ states) × (length amounts.now ≡ n) × (length rates.now ≡ n) × (n ≤ length res.old) }
     ensures result_value { reply_number result ≡ number (intervalOf scheme n matrix amounts.now rates.now duration) }
     ensures res_after { res.new ≡ slice_at_exit (intervalOf scheme n matrix amounts.now rates.now duration)
@@ -68,15 +62,8 @@ pub fn interval(
 {
     if duration == 0.0 {
         lay(amounts, res);
-        return Reply::Done;
+        return Ok(());
     }
-    let zeros = [0.0f64; BLOCK];
-    let mut p = [zeros; BLOCK];
-    let made = linear_pk_propagator::propagator(matrix, n, duration, &mut p);
-    match made {
-        Outcome::NormNotFinite => Reply::Refused(Refusal::NormNotFinite),
-        Outcome::TooManyHalvings => Reply::Refused(Refusal::TooManyHalvings),
-        Outcome::NotFinite => Reply::Refused(Refusal::AmountNotFinite),
-        Outcome::Done(_) => apply(&p, n, amounts, rates, duration, res),
-    }
+    let made = linear_pk_propagator::propagator(matrix, n, duration)?;
+    apply(&made.matrix, n, amounts, rates, duration, res)
 }

@@ -8,13 +8,14 @@ ghost use Rattle.matrix.specs.Matrix.{tabulate, all_to};
 ghost use Rattle.linear_pk_interval.specs.Interval.{entry};
 ghost use Rattle.linear_pk_mammillary.specs.Rates.{central, diagonal_to, central_rate, peripheral_rate, mammillary_rate, padded_rate, padded_cell, padded};
 
-use limits::{RATE_CELLS, STATES, VOLUMES};
+use limits::{RATE_CELLS, STATES};
+use std::array;
 
 // The place of the central state.
 pub fn central(depot: bool) -> usize
     ensures { (result ≡ central depot) × (result ≤ 1) }
 {
-    if depot { 1 } else { 0 }
+    usize::from(depot)
 }
 
 // −CL/V0, then minus q/V0 for each exchange in turn.
@@ -23,10 +24,8 @@ fn diagonal(clearance: f64, volumes: &[f64], exchange: &[f64]) -> f64
     ensures { result ≡ diagonal_to clearance volumes.now exchange.now (length exchange.now) }
 {
     let mut sum = -clearance / volumes[0];
-    let mut e = 0usize;
-    while e < exchange.len() {
-        sum = sum - exchange[e] / volumes[0];
-        e += 1;
+    for q in exchange {
+        sum = sum - *q / volumes[0];
     }
     sum
 }
@@ -125,39 +124,37 @@ pub fn matrix(
     requires { (length exchange.now + 1 ≡ length volumes.now) × (n ≡ length volumes.now + central depot) }
     ensures { result ≡ tabulate rate_cells (padded_rate clearance volumes.now exchange.now depot absorption n) }
 {
-    let mut list = [0.0f64; RATE_CELLS];
-    for c in 0..RATE_CELLS {
-        list[c] = padded_rate(clearance, volumes, exchange, depot, absorption, n, c);
-    }
-    list
+    array::from_fn(
+        |c|
+            requires { (length exchange.now + 1 ≡ length volumes.now) × (n ≡ length volumes.now + central depot) }
+            ensures { result ≡ padded_rate clearance volumes.entry.now exchange.entry.now depot absorption n c }
+        { padded_rate(clearance, volumes, exchange, depot, absorption, n, c) },
+    )
 }
 
 // Entry i of a list, +0 past its end.
-pub fn padded_cell(xs: &[f64], i: usize) -> f64
+fn padded_cell(xs: &[f64], i: usize) -> f64
     ensures { result ≡ padded_cell xs.now i }
 {
     if i < xs.len() { xs[i] } else { 0.0 }
 }
 
-pub fn padded_volumes(volumes: &[f64]) -> [f64; VOLUMES]
-    ensures { result ≡ padded 3 volumes.now }
+// The list, then +0.
+pub fn padded<const N: usize>(xs: &[f64]) -> [f64; N]
+    ensures { result ≡ padded N xs.now }
 {
-    let mut list = [0.0f64; VOLUMES];
-    for i in 0..VOLUMES {
-        list[i] = padded_cell(volumes, i);
-    }
-    list
+    array::from_fn(
+        |i|
+            ensures { result ≡ padded_cell xs.entry.now i }
+        { padded_cell(xs, i) },
+    )
 }
 
 fn row_finite(matrix: [f64; RATE_CELLS], n: usize, i: usize) -> bool
     requires { (i < states) × (n ≤ states) }
     ensures { result ≡ all_to (λ j. finite (entry matrix i j)) n }
 {
-    let mut ok = true;
-    for j in 0..n {
-        ok = ok & binary64::is_finite(linear_pk_propagator::entry(matrix, i, j));
-    }
-    ok
+    (0..n).all(|j| binary64::is_finite(linear_pk_propagator::entry(matrix, i, j)))
 }
 
 // Whether the rates of n states are finite.
@@ -165,9 +162,5 @@ pub fn matrix_finite(matrix: [f64; RATE_CELLS], n: usize) -> bool
     requires { n ≤ states }
     ensures { result ≡ all_to (λ i. all_to (λ j. finite (entry matrix i j)) n) n }
 {
-    let mut ok = true;
-    for i in 0..n {
-        ok = ok & row_finite(matrix, n, i);
-    }
-    ok
+    (0..n).all(|i| row_finite(matrix, n, i))
 }

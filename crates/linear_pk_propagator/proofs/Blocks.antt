@@ -1,27 +1,23 @@
 -- The block's array.
-use mathlib.Core.Path.{◌≡◌, ◌∙◌}
-use mathlib.Core.List.{List}
+use mathlib.Core.Path.{◌≡◌, ap, ◌∙◌}
+use mathlib.Core.List.{List, []}
 use Prim.Native.Nat.{ℕ, ◌+◌, ◌≤◌}
 use native.Mathlib.Omega.{arith}
-use lib.ListN.{replicate, length-replicate}
 use lib.Ieee.{Float, nan}
 use Rattle.limits.specs.Limits.{states, block}
-use Rattle.binary64.specs.Doubles.{plus_zero}
-use Rattle.matrix.specs.Matrix.{Matrix, table, tabulate}
-use Rattle.matrix.specs.Arrays.{Holds, updated}
+use Rattle.matrix.specs.Matrix.{Matrix, cell, table, tabulate}
+use Rattle.matrix.specs.Arrays.{lead, Holds}
 use Rattle.linear_pk_propagator.specs.Propagator.{block_cell}
-use Rattle.matrix.proofs.Filled.{tabulate-at}
-use Rattle.matrix.proofs.Updated.{updated-length}
-use Rattle.matrix.proofs.Rows.{replaced}
-use Rattle.matrix.proofs.Steps.{zeros}
+use Rattle.matrix.proofs.Filled.{tabulate-at, tabulate-length}
+use Rattle.matrix.proofs.Rows.{table_cong}
 
--- the block's array, whose rows past the states are zeros
-pub block_made :
-    (k : List Float) (n : ℕ) (d : Float) → n ≤ states → {r : Matrix} → r ≡ updated (n + n) (λ i x. tabulate block (block_cell n k d i)) zeros
+-- an array of cells, whose leading part is a table of them
+pub block_made : (k : List Float) (n : ℕ) (d : Float) → n ≤ states → {r : Matrix} → r ≡ tabulate block (λ i. tabulate block (block_cell n k d i))
     → Holds (n + n) r (table (n + n) (block_cell n k d))
+unfolding lead
 block_made k n d fit e = rw e (record {
-  width = updated-length (λ i x. tabulate block (block_cell n k d i)) (n + n) zeros ∙ length-replicate block (replicate block plus_zero);
+  width = tabulate-length (λ i. tabulate block (block_cell n k d i)) block;
   part =
-      replaced (n + n) (omega arith) zeros (length-replicate block (replicate block plus_zero)) (λ i x. tabulate block (block_cell n k d i))
-      (λ i j p q. tabulate-at (block_cell n k d i) nan block j (omega arith));
+      table_cong (n + n) (λ i j p q. ap (λ (r : List Float). cell r j) (tabulate-at (λ i. tabulate block (block_cell n k d i)) [] block i (omega arith))
+      ∙ tabulate-at (block_cell n k d i) nan block j (omega arith));
 })

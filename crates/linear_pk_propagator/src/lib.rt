@@ -4,17 +4,20 @@
 ghost use Rattle.std.specs.Prelude.{◌≡◌, ◌≤◌, ◌<◌, ◌+◌, length, take};
 ghost use Rattle.limits.specs.Limits.{states, block};
 ghost use Rattle.matrix.specs.Matrix.{tabulate, table, cell, all_to};
-ghost use Rattle.matrix.specs.Arrays.{lead, Holds};
+ghost use Rattle.matrix.specs.Arrays.{Holds};
 ghost use Rattle.matrix.specs.Exponential.{scheme};
-ghost use Rattle.exponential.specs.Answers.{exponential_result};
+ghost use Rattle.exponential.specs.Answers.{exponential_of};
+ghost use Rattle.refusal.specs.Numbers.{outcome_with};
 ghost use Rattle.linear_pk_propagator.specs.Propagator.{entry as entry_of, block_cell, propagator as propagator_of};
 ghost use Rattle.std.specs.Float.Ieee.Scale.{finite};
 ghost use Rattle.std.specs.Float.{binary64};
 ghost use Rattle.std.specs.Float.Ieee.{mul};
 ghost use Rattle.linear_pk_propagator.specs.Amounts.{amount_to};
 
-use exponential::Outcome;
+use exponential::Propagator;
 use limits::{BLOCK, RATE_CELLS, STATES};
+use refusal::Refusal;
+use std::array;
 
 // The rate from state j to state i.
 pub fn entry(matrix: [f64; RATE_CELLS], i: usize, j: usize) -> f64
@@ -43,11 +46,7 @@ fn block_row(matrix: [f64; RATE_CELLS], n: usize, duration: f64, i: usize) -> [f
     requires { n ≤ states }
     ensures { result ≡ tabulate block (block_cell n matrix duration i) }
 {
-    let mut row = [0.0f64; BLOCK];
-    for j in 0..BLOCK {
-        row[j] = block_cell(matrix, n, duration, i, j);
-    }
-    row
+    array::from_fn(|j| block_cell(matrix, n, duration, i, j))
 }
 
 // The block of a duration.
@@ -55,27 +54,20 @@ fn block_of(matrix: [f64; RATE_CELLS], n: usize, duration: f64) -> [[f64; BLOCK]
     requires { n ≤ states }
     ensures { Holds (n + n) result (table (n + n) (block_cell n matrix duration)) }
 {
-    let zeros = [0.0f64; BLOCK];
-    let mut r = [zeros; BLOCK];
-    let m = n + n;
-    for i in 0..m {
-        r[i] = block_row(matrix, n, duration, i);
-    }
-    r
+    array::from_fn(
+        |i|
+            requires { n ≤ states }
+            ensures { result ≡ tabulate block (block_cell n matrix duration i) }
+        { block_row(matrix, n, duration, i) },
+    )
 }
 
-// The exponential of a duration, into p, apart from the amounts that it is applied to.
-pub fn propagator(
-    matrix: [f64; RATE_CELLS],
-    n: usize,
-    duration: f64,
-    p: &mut [[f64; BLOCK]; BLOCK],
-) -> Outcome
+// The exponential of a duration, apart from the amounts that it is applied to.
+pub fn propagator(matrix: [f64; RATE_CELLS], n: usize, duration: f64) -> Result<Propagator, Refusal>
     requires { n ≤ states }
-    ensures { exponential_result result (lead (n + n) p.new) ≡ propagator_of scheme n matrix duration }
+    ensures { outcome_with (exponential_of (n + n)) result ≡ propagator_of scheme n matrix duration }
 {
-    let block = block_of(matrix, n, duration);
-    exponential::exponential(block, n + n, p)
+    exponential::exponential(block_of(matrix, n, duration), n + n)
 }
 
 // Whether each input rate·duration is finite.
@@ -83,11 +75,9 @@ pub fn inputs_finite(rates: &[f64], n: usize, duration: f64) -> bool
     requires { n ≤ length rates.now }
     ensures { result ≡ all_to (λ j. finite (mul binary64 (cell rates.now j) duration)) n }
 {
-    let mut ok = true;
-    for j in 0..n {
-        ok = ok & binary64::is_finite(rates[j] * duration);
-    }
-    ok
+    rates[..n]
+        .iter()
+        .all(|rate| binary64::is_finite(*rate * duration))
 }
 
 // Amount i after p: each pair is added first.

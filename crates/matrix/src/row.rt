@@ -4,46 +4,31 @@ ghost use Rattle.limits.specs.Limits.{block};
 ghost use Rattle.matrix.specs.Arrays.{scaled_sum, row_quotient, row_sum_of, row_half, row_times};
 
 use limits::BLOCK;
+use std::array;
 
 // sum + x·row
 pub fn plus_scaled(sum: [f64; BLOCK], x: f64, row: [f64; BLOCK]) -> [f64; BLOCK]
     ensures { result ≡ scaled_sum sum x row }
 {
-    let mut next = [0.0f64; BLOCK];
-    for j in 0..BLOCK {
-        next[j] = sum[j] + x * row[j];
-    }
-    next
+    array::from_fn(|j| sum[j] + x * row[j])
 }
 
 pub fn divided(row: [f64; BLOCK], x: f64) -> [f64; BLOCK]
     ensures { result ≡ row_quotient row x }
 {
-    let mut next = [0.0f64; BLOCK];
-    for j in 0..BLOCK {
-        next[j] = row[j] / x;
-    }
-    next
+    array::from_fn(|j| row[j] / x)
 }
 
 pub fn added(row: [f64; BLOCK], term: [f64; BLOCK]) -> [f64; BLOCK]
     ensures { result ≡ row_sum_of row term }
 {
-    let mut next = [0.0f64; BLOCK];
-    for j in 0..BLOCK {
-        next[j] = row[j] + term[j];
-    }
-    next
+    array::from_fn(|j| row[j] + term[j])
 }
 
 pub fn halved(row: [f64; BLOCK]) -> [f64; BLOCK]
     ensures { result ≡ row_half row }
 {
-    let mut next = [0.0f64; BLOCK];
-    for j in 0..BLOCK {
-        next[j] = row[j] * 0.5;
-    }
-    next
+    array::from_fn(|j| row[j] * 0.5)
 }
 
 // row × b, where b has m rows in use: the rows of b, scaled and summed in order.

@@ -4,13 +4,13 @@ use mathlib.Core.Bool.{Bool, true, false, ◌&&◌}
 use mathlib.Core.List.{List, ◌++◌}
 use Prim.Native.Nat.{ℕ, ◌≤◌}
 use lib.Dec.{leb}
-use lib.ListN.{length, take, drop, length-map}
+use lib.ListN.{length, drop}
 use lib.Ieee.{Float}
+use Rattle.std.specs.Prelude.{Ok, Err}
 use Rattle.limits.specs.Limits.{states, most_cycle_events, most_events, most_samples}
 use Rattle.binary64.specs.Doubles.{plus_zero}
 use Rattle.refusal.specs.Result.{refused, done}
 use Rattle.refusal.specs.Numbers.{refusal_number}
-use Rattle.refusal.specs.declared.Refusal.{Refusal}
 use Rattle.linear_pk.specs.LinearPk.{sound, state_count}
 use Rattle.linear_pk.specs.declared.kernel.LinearPk.{LinearPk}
 use Rattle.protocol.specs.Execute.{Propagator}
@@ -18,30 +18,28 @@ use Rattle.protocol.specs.declared.Event.{Event}
 use Rattle.protocol.specs.declared.Window.{Window}
 use Rattle.simulation.specs.KernelRun.{propagator_of}
 use Rattle.cycle.specs.declared.SteadyStateTolerance.{SteadyStateTolerance}
-use Rattle.cycle.specs.Closed.{Timed, stopped, got, then, unless_fails, ready, homogeneous, zeroed, solution, SteadyState, accepted, closed}
+use Rattle.cycle.specs.Closed.{Timed, stopped, got, then, unless_fails, ready, solution, SteadyState, accepted, closed}
 use Rattle.cycle.specs.Closed.{SteadyReport, steady_report_of, answer_at_exit}
 use Rattle.cycle.specs.ClosedCycle.{closed_numbers}
-use Rattle.cycle.proofs.Folds.{zeroed-passes}
 use Rattle.cycle.proofs.InnerRuns.{Ready, ready_hands}
 use Rattle.cycle.proofs.Results.{hands_got}
 use Rattle.periodic_runs.specs.Ends.{Runs}
-use Rattle.periodic_acceptance.specs.declared.SteadyReply.{SteadyReply}
-use Rattle.periodic_acceptance.specs.declared.SteadyReply.TheVariants as P
+use Rattle.periodic_runs.specs.declared.Stop.{Stop}
 use Rattle.periodic_acceptance.specs.Entry.{steady_entry, steady_reply}
 use Rattle.periodic_acceptance.specs.Replies.{SteadyAnswer}
 
 -- ---- a refusal leaves the slices as they were; an answer stands at their front
-pub refuses : {o : Timed SteadyState} {r : SteadyReply} {x : Refusal} {t : Float} (a e : List Float) → r ≡ P.Refused x t
-    → stopped (refusal_number x) t ≡ o → SteadyAnswer o (steady_reply r) a e a e
-refuses a e q p = record {
-  reply = ap steady_reply q ∙ ap steady_report_of p;
+pub refuses : {o : Timed SteadyState} (x : Stop) (a e : List Float) → stopped (refusal_number x.refusal) x.time ≡ o
+    → SteadyAnswer o (steady_reply (Err x)) a e a e
+refuses x a e p = record {
+  reply = ap steady_report_of p;
   amounts = ap (λ (x : Timed SteadyState). answer_at_exit (λ s. s.amounts) x a) p;
   residuals = ap (λ (x : Timed SteadyState). answer_at_exit (λ s. s.residuals) x e) p;
 }
 
 pub solves : {o : Timed SteadyState} (s : SteadyState) (a e : List Float) {a' e' : List Float} → got s ≡ o
     → a' ≡ s.amounts ++ drop (length s.amounts) a → e' ≡ s.residuals ++ drop (length s.residuals) e
-    → SteadyAnswer o (steady_reply (P.Solved s.maximum)) a e a' e'
+    → SteadyAnswer o (steady_reply (Ok s.maximum)) a e a' e'
 solves s a e p q r = record {
   reply = ap steady_report_of p;
   amounts = q ∙ ap (λ (x : Timed SteadyState). answer_at_exit (λ s. s.amounts) x a) p;
@@ -52,24 +50,13 @@ pub answers_as : {o o' : Timed SteadyState} {r : SteadyReport} {a e a' e' : List
     → SteadyAnswer o' r a e a' e'
 answers_as {o} {o'} {r} {a} {e} {a'} {e'} p h = subst (λ (x : Timed SteadyState). SteadyAnswer x r a e a' e') p h
 
--- ---- what the runs ask, of the folded list and of the zeroed one
-module _ (k : LinearPk) (n : ℕ) (w : Window) (ss : List Float) (es : List Event) (tol : SteadyStateTolerance) (c : n ≡ state_count k)
-    (s : n ≤ states) {fs : List Event} (r : got fs ≡ ready n w ss es tol)
-    (l : length fs ≤ most_events) where
-  passed : Ready n w es tol fs
-  passed = hands_got closed_numbers (Ready n w es tol) (ready n w ss es tol) fs (ready_hands n w ss es tol) (sym r)
-
-  pub folded_runs : Runs k n w fs
-  folded_runs = record { count = c; states = s; few = l; passes = passed.prepared }
-
-  pub zeroed_runs : Runs k n w (homogeneous fs)
-  unfolding homogeneous
-  zeroed_runs = record {
-    count = c;
-    states = s;
-    few = rw (length-map fs zeroed) l;
-    passes = zeroed-passes n n w es fs passed.folds ∙ passed.prepared;
-  }
+-- ---- what the runs ask of the folded list
+pub folded_runs :
+    (k : LinearPk) (n : ℕ) (w : Window) (ss : List Float) (es : List Event) (tol : SteadyStateTolerance) {fs : List Event} → n ≡ state_count k
+    → n ≤ states → got fs ≡ ready n w ss es tol → length fs ≤ most_events → Runs k n w fs
+folded_runs k n w ss es tol {fs} c s r l =
+    let passed : Ready n w es tol fs = hands_got closed_numbers (Ready n w es tol) (ready n w ss es tol) fs (ready_hands n w ss es tol) (sym r) in
+    record { count = c; states = s; few = l; passes = passed.prepared }
 
 -- ---- behind them
 module _ (advance : Propagator) (n : ℕ) (w : Window) (tol : SteadyStateTolerance) (fs : List Event) where
@@ -97,16 +84,16 @@ module _ (advance : Propagator) (n : ℕ) (w : Window) (ss : List Float) (es : L
   closed_goes e = rw (← e)
 
 -- ---- the entry
-module _ (k : LinearPk) (w : Window) (ss : List Float) (es : List Event) (count : ℕ) (tol : SteadyStateTolerance) (room : Bool) where
-  pub limit_stops : (leb count most_cycle_events && leb (length ss) most_samples) ≡ false → stopped 5 plus_zero ≡ steady_entry k w ss es count tol room
+module _ (k : LinearPk) (w : Window) (ss : List Float) (es : List Event) (tol : SteadyStateTolerance) (room : Bool) where
+  pub limit_stops : (leb (length es) most_cycle_events && leb (length ss) most_samples) ≡ false → stopped 5 plus_zero ≡ steady_entry k w ss es tol room
   unfolding steady_entry
   limit_stops h = rw h
 
-  module _ (h : (leb count most_cycle_events && leb (length ss) most_samples) ≡ true) where
-    pub kernel-stops : {c : ℕ} → refused c ≡ sound k → stopped c plus_zero ≡ steady_entry k w ss es count tol room
+  module _ (h : (leb (length es) most_cycle_events && leb (length ss) most_samples) ≡ true) where
+    pub kernel-stops : {c : ℕ} → refused c ≡ sound k → stopped c plus_zero ≡ steady_entry k w ss es tol room
     unfolding steady_entry
     kernel-stops e = rw (h, ← e)
 
-    pub entry_goes : done k ≡ sound k → closed (propagator_of k) (state_count k) w ss (take count es) tol room ≡ steady_entry k w ss es count tol room
+    pub entry_goes : done k ≡ sound k → closed (propagator_of k) (state_count k) w ss es tol room ≡ steady_entry k w ss es tol room
     unfolding steady_entry
     entry_goes e = rw (h, ← e)

@@ -1,9 +1,8 @@
--- What the code replies of a candidate. Definitions only.
+-- What an accepted candidate stands for. Definitions only.
 use Rattle.std.specs.Prelude.{List, ℕ, take, Float}
-use Rattle.cycle.specs.Closed.{Timed, SteadyState}
-use Rattle.periodic_runs.specs.Ends.{timed_of}
+use Rattle.cycle.specs.Closed.{SteadyState}
 use Rattle.periodic_acceptance.specs.declared.Acceptance.{Acceptance}
 
--- the candidate a of n states, refused, or with its residuals and the greatest scaled one
-abbrev pub acceptance : ℕ → List Float → Acceptance → Timed SteadyState
-acceptance n a r = timed_of r.reply r.time (record { amounts = take n a; residuals = take n r.residuals; maximum = r.maximum })
+-- the candidate a of n states, with its residuals and the greatest scaled one
+abbrev pub state_of : ℕ → List Float → Acceptance → SteadyState
+state_of n a r = record { amounts = take n a; residuals = take n r.residuals; maximum = r.maximum }

@@ -11,9 +11,8 @@ use Rattle.limits.specs.Limits.{states}
 use Rattle.binary64.specs.Doubles.{plus_zero, one}
 use Rattle.matrix.specs.Matrix.{Matrix, cell, at, table}
 use Rattle.matrix.specs.Arrays.{lead}
-use Rattle.matrix.proofs.Filled.{tabulate-at}
 use Rattle.matrix.proofs.Rows.{table_at, table_cong}
-use Rattle.events.proofs.Scans.{take-replicate}
+use Rattle.matrix.proofs.Filled.{tabulate-at, take-replicate}
 use Rattle.protocol.specs.Execute.{Propagator}
 use Rattle.protocol.specs.declared.Event.{Event}
 use Rattle.protocol.specs.declared.Window.{Window}

@@ -1,45 +1,14 @@
-// What the inner runs of a closed cycle start from: the divided budgets, the zeroed list, the unit amounts; cells for the packed list, the
-// rows and the boundaries.
+// What the inner runs of a closed cycle start from: the divided budgets, the zeroed list, the unit amounts; cells for the rows.
 #![tactic(auto)]
 
-ghost use Rattle.std.specs.Prelude.{◌≡◌, length, List, ℕ, ◌≤◌, ◌<◌};
-ghost use Rattle.limits.specs.Limits.{states, most_events, most_samples, most_boundaries, cycle_rows, cycle_values};
-ghost use Rattle.events.specs.Packed.{packed};
-ghost use Rattle.cycle.specs.Closed.{divided as dividedOf, homogeneous as homogeneousOf, unit as unit_of};
-ghost use Rattle.periodic_inputs.specs.Zeroed.{zeroed_row};
+ghost use Rattle.std.specs.Prelude.{◌≡◌, length, ◌≤◌, ◌<◌};
+ghost use Rattle.limits.specs.Limits.{states, most_events, cycle_rows, cycle_values};
+ghost use Rattle.cycle.specs.Closed.{divided as dividedOf, zeroed as zeroedOf, homogeneous as homogeneousOf, unit as unit_of};
 
-use events::{Reals, Words};
-use limits::{BOUNDARIES, CYCLE_ROWS, CYCLE_VALUES, EVENTS, SAMPLES, STATES};
-use protocol::Window;
+use limits::{CYCLE_ROWS, CYCLE_VALUES, STATES};
+use protocol::{Event, EventList, Window};
 
-// Cells for a packed list. What they hold is of no matter.
-pub fn real_cells() -> Reals
-    ensures { most_events ≡ length result }
-{
-    let row = [0.0f64; 3];
-    [row; EVENTS]
-}
-
-pub fn word_cells() -> Words
-    ensures { most_events ≡ length result }
-{
-    let row = [0usize; 4];
-    [row; EVENTS]
-}
-
-// Cells for the rows of a run and for its boundaries. What they hold is of no matter.
-pub fn sample_cells() -> [f64; SAMPLES]
-    ensures { most_samples ≡ length result }
-{
-    [0.0; SAMPLES]
-}
-
-pub fn boundary_cells() -> [f64; BOUNDARIES]
-    ensures { most_boundaries ≡ length result }
-{
-    [0.0; BOUNDARIES]
-}
-
+// Cells for the rows of a run. What they hold is of no matter.
 pub fn time_cells() -> [f64; CYCLE_ROWS]
     ensures { cycle_rows ≡ length result }
 {
@@ -59,42 +28,72 @@ pub fn value_cells() -> [f64; CYCLE_VALUES]
 }
 
 // Each budget divided by n + 2.
+#[tactic(auto, unfolding(cycle::specs::Closed::divided))]
 pub fn divided(n: usize, window: Window) -> Window
     requires { n ≤ states }
     ensures { result ≡ dividedOf n window }
 {
     let passes = n + 2;
     Window {
-        start: window.start,
-        end: window.end,
-        rtol: window.rtol,
-        atol: window.atol,
         propagations: window.propagations / (passes as u64),
         events: window.events / passes,
         outputs: window.outputs / passes,
+        ..window
     }
 }
 
-fn zeroed_row(reals: &Reals, i: usize) -> [f64; 3]
-    requires { i < most_events }
-    ensures { result ≡ zeroed_row reals.now i }
+// The event with its dose or reset value zeroed.
+#[tactic(auto, unfolding(cycle::specs::Closed::zeroed))]
+fn zeroed(event: &Event) -> Event
+    ensures { result ≡ zeroedOf event.now }
 {
-    [reals[i][0], 0.0, reals[i][2]]
+    match *event {
+        Event::Bolus { time, target, .. } => Event::Bolus {
+            time,
+            target,
+            amount: 0.0,
+        },
+        Event::Infusion {
+            time,
+            target,
+            duration,
+            ..
+        } => Event::Infusion {
+            time,
+            target,
+            amount: 0.0,
+            duration,
+        },
+        Event::Reset {
+            time,
+            target,
+            order,
+            stops,
+            ..
+        } => Event::Reset {
+            time,
+            target,
+            value: 0.0,
+            order,
+            stops,
+        },
+    }
 }
 
-// The rows of the list with doses and reset values zeroed.
-pub fn homogeneous(reals: &Reals, count: usize) -> Reals
-    requires { count ≤ most_events }
-    ensures { (ws : List (List ℕ)) → packed result ws count ≡ homogeneousOf (packed reals.now ws count) }
+// The list with doses and reset values zeroed.
+pub fn homogeneous(events: &[Event]) -> EventList
+    requires { length events.now ≤ most_events }
+    ensures { result.items ≡ homogeneousOf events.now }
 {
-    let mut zeroed = real_cells();
-    for i in 0..count {
-        zeroed[i] = zeroed_row(reals, i);
+    let mut list = EventList::new();
+    for event in events {
+        list.push(zeroed(event));
     }
-    zeroed
+    list
 }
 
 // One amount of 1.
+#[tactic(auto, unfolding(cycle::specs::Closed::unit))]
 pub fn unit(j: usize) -> [f64; STATES]
     requires { j < states }
     ensures { result ≡ unit_of states j }

@@ -47,13 +47,9 @@ last_of_lem (x ∷ rs) r d = last_of_lem rs r d
 rooms : (rows n : ℕ) → rows ≤ cycle_rows → n ≤ states → rows * n ≤ cycle_values
 rooms rows n r h = le_trans (mul-le-mul_right n r) (omega arith)
 
-module _ (k : LinearPk) (w : Window) (es : List Event) (count : ℕ) (a : List Float) (h : ReachesEnd k w (take count es) a)
-    (c : count ≤ most_events) (small : state_count k ≤ states) where
+module _ (k : LinearPk) (w : Window) (fs : List Event) (a : List Float) (h : ReachesEnd k w fs a) (small : state_count k ≤ states) where
   abbrev n : ℕ
   n = state_count k
-
-  abbrev fs : List Event
-  fs = take count es
 
   abbrev rows : List Row
   rows = h.left.rows
@@ -75,11 +71,11 @@ module _ (k : LinearPk) (w : Window) (es : List Event) (count : ℕ) (a : List F
       )
 
   entry_goes : (times sides values : ℕ) → cycle_rows ≤ times → cycle_rows ≤ sides → cycle_values ≤ values
-      → simulate_entry k a (divided n w) es count [] (room times sides values) ≡ done (go h.left)
+      → simulate_entry k a (divided n w) fs [] (room times sides values) ≡ done (go h.left)
   unfolding simulate_entry
   entry_goes times sides values t s v =
-      rw (le-leb count most_events c) (simulate_runs (propagator_of k) (own_number (sound k)) n (divided n w) [] fs a (room times sides values)
-      (none_ahead times sides values t s v) ∙ ap (λ (o : Outcome). done o) h.reaches)
+      simulate_runs (propagator_of k) (own_number (sound k)) n (divided n w) [] fs a (room times sides values)
+      (none_ahead times sides values t s v) ∙ ap (λ (o : Outcome). done o) h.reaches
 
   -- what holds of the run
   facts : PlainRun (propagator_of k) (refusal_of k) n (divided n w) [] fs a
@@ -125,11 +121,11 @@ module _ (k : LinearPk) (w : Window) (es : List Event) (count : ℕ) (a : List F
   -- what the code replies
   module _ {times sides : ℕ} (values : List Float) (t : cycle_rows ≤ times) (s : cycle_rows ≤ sides) (v : cycle_values ≤ length values)
       {span : Window} (d : span ≡ divided n w) where
-    goes : simulate_entry k a span es count [] (room times sides (length values)) ≡ done (go h.left)
-    goes = ap (λ (x : Window). simulate_entry k a x es count [] (room times sides (length values))) d ∙ entry_goes times sides (length values) t s v
+    goes : simulate_entry k a span fs [] (room times sides (length values)) ≡ done (go h.left)
+    goes = ap (λ (x : Window). simulate_entry k a x fs [] (room times sides (length values))) d ∙ entry_goes times sides (length values) t s v
 
     module _ {told : RunReport} {report : Report} (r : reported report ≡ told) (e : told
-        ≡ report_of (simulate_entry k a span es count [] (room times sides (length values)))) where
+        ≡ report_of (simulate_entry k a span fs [] (room times sides (length values)))) where
       counted : report.rows ≡ length end.ahead + 1
       counted = ap (λ (x : RunReport). x.rows) (r ∙ e ∙ ap report_of goes) ∙ some_rows
 
@@ -143,7 +139,7 @@ module _ (k : LinearPk) (w : Window) (es : List Event) (count : ℕ) (a : List F
       place_fits = let p : report.rows - 1 ≡ length end.ahead = omega (arith, counted) in rw p (rooms (length end.ahead) n few-rows small)
 
       pub cycle-ends : {values' : List Float} → values' ≡ values_at_exit (reckoned [] fs) n
-          (simulate_entry k a span es count [] (room times sides (length values))) values
+          (simulate_entry k a span fs [] (room times sides (length values))) values
           → ((report.rows - 1) * n + n ≤ length values') × (last_of (propagator_of k) n w fs a ≡ got (take n (drop ((report.rows - 1) * n) values')))
       cycle-ends q =
           let p : report.rows - 1 ≡ length end.ahead = omega (arith, counted) in

@@ -2,13 +2,12 @@
 #![tactic(auto)]
 
 ghost use Rattle.std.specs.Prelude.{◌≡◌, ◌+◌, ◌≤◌, length, take, drop};
-ghost use Rattle.limits.specs.Limits.{most_events, cycle_rows, cycle_values};
+ghost use Rattle.limits.specs.Limits.{cycle_rows, cycle_values};
 ghost use Rattle.linear_pk.specs.LinearPk.{state_count};
 ghost use Rattle.simulation.specs.KernelRun.{propagator_of};
 ghost use Rattle.cycle.specs.Closed.{got, last_of};
 ghost use Rattle.periodic_next.specs.ReachesEnd.{ReachesEnd};
 
-use limits::EVENTS;
 use linear_pk::LinearPk;
 use protocol::{Event, Window};
 
@@ -16,29 +15,25 @@ use protocol::{Event, Window};
 pub fn simulate_cycle(
     kernel: LinearPk,
     window: Window,
-    events: [Event; EVENTS],
-    count: usize,
+    events: &[Event],
     amounts: &[f64],
     times: &mut [f64],
     sides: &mut [u8],
     values: &mut [f64],
 ) -> usize
-    requires { ReachesEnd kernel window (take count events) amounts.now × (count ≤ most_events)
-        × (cycle_rows ≤ length times.old) × (cycle_rows ≤ length sides.old) × (cycle_values ≤ length values.old) }
+    requires { ReachesEnd kernel window events.now amounts.now × (cycle_rows ≤ length times.old) × (cycle_rows ≤ length sides.old) × (cycle_values ≤ length values.old) }
     ensures { (result + state_count kernel ≤ length values.new)
-        × (last_of (propagator_of kernel) (state_count kernel) window (take count events) amounts.now
+        × (last_of (propagator_of kernel) (state_count kernel) window events.now amounts.now
         ≡ got (take (state_count kernel) (drop result values.new))) }
 {
     let n = kernel.state_count();
-    let none = [0.0f64; 1];
     let span = periodic_inputs::divided(n, window);
     let report = simulation_report::report_of(simulation::simulate(
         kernel,
         amounts,
         span,
         events,
-        count,
-        &none[..0],
+        &[],
         times,
         sides,
         values,

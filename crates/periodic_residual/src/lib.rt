@@ -3,19 +3,12 @@
 
 ghost use Rattle.std.specs.Prelude.{◌≡◌, ◌≤◌, take};
 ghost use Rattle.limits.specs.Limits.{states};
-ghost use Rattle.refusal.specs.Numbers.{result_of};
-ghost use Rattle.cycle.specs.Closed.{untimed, scale_of, checked_maximum_to, residuals_of};
+ghost use Rattle.refusal.specs.Numbers.{outcome_of};
+ghost use Rattle.cycle.specs.Closed.{untimed, scale_of, judged as judgedOf, checked_maximum_to, residuals_of};
 
 use cycle::SteadyStateTolerance;
 use limits::STATES;
-use refusal::{Refusal, Reply};
-
-// 35 or 36, or the greatest scaled residual.
-#[derive(Clone, Copy)]
-pub struct Scaled {
-    pub reply: Reply,
-    pub maximum: f64,
-}
+use refusal::Refusal;
 
 // absolute + relative·max(|start|, |end|)
 pub fn scale(tolerance: SteadyStateTolerance, start: f64, end: f64) -> f64
@@ -25,43 +18,41 @@ pub fn scale(tolerance: SteadyStateTolerance, start: f64, end: f64) -> f64
         + tolerance.relative * binary64_order::max(binary64::abs(start), binary64::abs(end))
 }
 
-fn not_scaled(refusal: Refusal) -> Scaled
-    ensures { result.reply ≡ Reply.Refused refusal }
+// One state more: 35 for its scale, 36 for its scaled residual, or the greater of that and the greatest so far.
+fn judged(
+    tolerance: SteadyStateTolerance,
+    start: f64,
+    end: f64,
+    maximum: f64,
+) -> Result<f64, Refusal>
+    ensures { untimed (outcome_of result) ≡ judgedOf tolerance start end maximum }
 {
-    Scaled {
-        reply: Reply::Refused(refusal),
-        maximum: 0.0,
+    let divisor = scale(tolerance, start, end);
+    if !binary64::is_finite(divisor) {
+        return Err(Refusal::Scale);
     }
+    let scaled = binary64::abs(end - start) / divisor;
+    if !(binary64::is_finite(scaled) & !(1.0 < scaled)) {
+        return Err(Refusal::Residual);
+    }
+    Ok(binary64_order::max(maximum, scaled))
 }
 
-// State by state: 35 for its scale, 36 for its scaled residual.
+// The greatest scaled residual, or the refusal of the first state that has one.
 pub fn maximum(
     n: usize,
     tolerance: SteadyStateTolerance,
     start: [f64; STATES],
     end: [f64; STATES],
-) -> Scaled
+) -> Result<f64, Refusal>
     requires { n ≤ states }
-    ensures { untimed (result_of result.reply result.maximum) ≡ checked_maximum_to tolerance (take n start) (take n end) n }
+    ensures { untimed (outcome_of result) ≡ checked_maximum_to tolerance (take n start) (take n end) n }
 {
     let mut maximum = 0.0f64;
-    for i in 0..n {
-        let from = start[i];
-        let to = end[i];
-        let divisor = scale(tolerance, from, to);
-        if !binary64::is_finite(divisor) {
-            return not_scaled(Refusal::Scale);
-        }
-        let scaled = binary64::abs(to - from) / divisor;
-        if !(binary64::is_finite(scaled) & !(1.0 < scaled)) {
-            return not_scaled(Refusal::Residual);
-        }
-        maximum = binary64_order::max(maximum, scaled);
+    for (&from, &to) in start[..n].iter().zip(&end[..n]) {
+        maximum = judged(tolerance, from, to, maximum)?;
     }
-    Scaled {
-        reply: Reply::Done,
-        maximum,
-    }
+    Ok(maximum)
 }
 
 // End minus start, of each state.
@@ -70,6 +61,7 @@ pub fn residuals(n: usize, start: [f64; STATES], end: [f64; STATES]) -> [f64; ST
     ensures { take n result ≡ residuals_of n (take n start) (take n end) }
 {
     let mut list = [0.0f64; STATES];
+    // By index: one cell is written from two at the same place, and a zip of three is no plainer.
     for i in 0..n {
         list[i] = end[i] - start[i];
     }

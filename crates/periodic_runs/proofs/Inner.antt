@@ -1,49 +1,38 @@
--- An inner run: its room, and where it comes to from what the run's code leaves.
+-- An inner run: where it comes to, from what the run's code leaves.
 use mathlib.Core.Path.{◌≡◌, refl, sym, ap, ◌∙◌, subst}
 use mathlib.Core.Bool.{cond}
 use mathlib.Core.List.{List, []}
-use Prim.Native.Nat.{ℕ, ◌≤◌}
-use native.Mathlib.Nat.{le_trans, mul-le-mul_left, mul-le-mul_right}
-use native.Mathlib.Omega.{arith}
-use lib.ListN.{length, take}
+use Prim.Native.Nat.{ℕ}
+use lib.ListN.{take}
 use lib.Ieee.{Float}
-use Rattle.limits.specs.Limits.{states, most_events, cycle_rows, cycle_values}
-use Rattle.refusal.specs.Numbers.{reply_number}
-use Rattle.refusal.specs.declared.Reply.{Reply}
-use Rattle.refusal.specs.declared.Reply.TheVariants.{Done, Refused}
+use Rattle.refusal.specs.Numbers.{Reply, refusal_number, reply_number}
+use Rattle.std.specs.Prelude.{Ok, Err}
 use Rattle.matrix.specs.Exponential.{scheme}
 use Rattle.linear_pk.specs.LinearPk.{advance}
 use Rattle.linear_pk.specs.declared.kernel.LinearPk.{LinearPk}
-use Rattle.protocol.specs.Prepare.{reckoned}
 use Rattle.protocol.specs.Schedule.{schedule}
 use Rattle.protocol.specs.Execute.{Propagator, Outcome, go, stop, run_of}
 use Rattle.protocol.specs.PlainRun.{Prepared}
 use Rattle.protocol.specs.declared.Event.{Event}
 use Rattle.protocol.specs.declared.Window.{Window}
-use Rattle.rows.specs.Written.{Cells, RoomForRows}
+use Rattle.rows.specs.Written.{Cells}
 use Rattle.rows.specs.Standing.{Standing, is_refused, standing, behind_of, after, Ran, kernel_advance}
 use Rattle.rows.specs.declared.Progress.{Progress}
 use Rattle.simulation_matrix.specs.Started.{started}
 use Rattle.simulation.specs.KernelRun.{propagator_of}
 use Rattle.cycle.specs.Closed.{Timed, stopped, got, divided, end_of, last_of}
 use Rattle.cycle.proofs.InnerRuns.{run_leaves}
-use Rattle.periodic_runs.specs.Ends.{Runs, timed_of}
-
--- ---- room for the reckoned rows
-pub inner_room : (n : ℕ) (es : List Event) (c : Cells) → n ≤ states → length es ≤ most_events → cycle_rows ≤ length c.times
-    → cycle_rows ≤ length c.sides → cycle_values ≤ length c.values → RoomForRows n (reckoned [] es) c
-inner_room n es c s e t d v =
-    let few : reckoned [] es ≤ cycle_rows = omega arith in
-    record {
-      times = le_trans few t;
-      sides = le_trans few d;
-      values = le_trans (mul-le-mul_right n few) (le_trans (mul-le-mul_left cycle_rows s) v);
-    }
+use Rattle.periodic_runs.specs.Ends.{Runs}
 
 -- ---- where it comes to
+-- a reply at a time, beside the value that goes with it
+abbrev pub timed_of : {A : Type 0} → Reply → Float → A → Timed A
+timed_of (Ok u) t a = got a
+timed_of (Err r) t a = stopped (refusal_number r) t
+
 as_told : (y : Reply) (t : Float) (a : List Float) → timed_of y t a ≡ cond (is_refused y) (stopped (reply_number y) t) (got a)
-as_told Done t a = refl
-as_told (Refused r) t a = refl
+as_told (Ok u) t a = refl
+as_told (Err r) t a = refl
 
 abbrev told_end : Standing → Timed (List Float)
 told_end t = cond t.stopped (stopped t.number t.time) (got t.amounts)

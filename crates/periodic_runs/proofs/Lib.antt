@@ -2,3 +2,5 @@
 pub mod Inner
 -- The laws of the columns of the unit amounts.
 pub mod UnitRuns
+-- The zeroed list passes where the list does.
+pub mod ZeroedRuns

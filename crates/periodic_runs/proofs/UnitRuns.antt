@@ -11,8 +11,7 @@ use lib.Ieee.{Float}
 use Rattle.limits.specs.Limits.{states}
 use Rattle.binary64.specs.Doubles.{plus_zero, one}
 use Rattle.matrix.specs.Matrix.{tabulate_from, tabulate}
-use Rattle.matrix.proofs.Filled.{tabulate_cong}
-use Rattle.events.proofs.Scans.{take-replicate}
+use Rattle.matrix.proofs.Filled.{tabulate_cong, take-replicate}
 use Rattle.protocol.specs.Execute.{Propagator}
 use Rattle.protocol.specs.declared.Event.{Event}
 use Rattle.protocol.specs.declared.Window.{Window}
@@ -52,10 +51,6 @@ module _ (advance : Propagator) (n : ℕ) (w : Window) (fs : List Event) where
   columns-step : (k : ℕ) → columns_to advance n w fs (suc k) ≡ then (columns_to advance n w fs k) (step k)
   unfolding columns_to step
   columns-step k = refl
-
-  pub columns_none : (cs : List (List Float)) → columns_to advance n w fs 0 ≡ got (columns_of n cs 0)
-  unfolding columns_to tabulate tabulate_from
-  columns_none cs = refl
 
   module _ (cs : List (List Float)) (j : ℕ) (so_far : columns_to advance n w fs j ≡ got (columns_of n cs j)) where
     next : {r : Timed (List Float)} → r ≡ last_of advance n w (homogeneous fs) (unit n j)

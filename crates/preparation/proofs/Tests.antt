@@ -1,4 +1,4 @@
--- The preparation of a packed list, test by test.
+-- The preparation of a list, test by test.
 use mathlib.Core.Path.{◌≡◌, refl}
 use mathlib.Core.Bool.{Bool, true, false}
 use mathlib.Core.List.{List, [], ◌∷◌}
@@ -7,7 +7,7 @@ use Prim.Native.Nat.{ℕ, suc, ◌+◌, ◌*◌, ◌≤◌, ◌<◌}
 use native.Mathlib.Omega.{arith}
 use borrow.Author.Tests.{lt-leb, le-leb}
 use lib.Dec.{leb}
-use lib.ListN.{length, take}
+use lib.ListN.{length}
 use lib.Ieee.{Float}
 use Rattle.limits.specs.Limits.{most_events, most_samples}
 use Rattle.protocol.specs.First.{unless, first_of}
@@ -19,27 +19,25 @@ use Rattle.refusal.specs.Result.{done}
 use Rattle.linear_pk.specs.LinearPk.{sound, state_count}
 use Rattle.linear_pk.specs.declared.kernel.LinearPk.{LinearPk}
 use Rattle.preparation.specs.Preparation.{prepare_entry, option_number}
-use Rattle.events.specs.Packed.{packed}
-use Rattle.events.proofs.Packing.{packed-length}
 
 -- the preparation is 13, `validate`, 14
 prepare-by :
-    (n : ℕ) (w : Window) (ss : List Float) (rs : List (List Float)) (ws : List (List ℕ)) (count : ℕ) {b f : Bool}
-    → b ≡ leb count w.events → f ≡ leb ((4 * count + length ss + 2) * n) w.outputs
-    → prepare n w ss (packed rs ws count) ≡ first_of (unless b 13 ∷ validate n w ss (packed rs ws count) ∷ unless f 14 ∷ [])
+    (n : ℕ) (w : Window) (ss : List Float) (es : List Event) {b f : Bool}
+    → b ≡ leb (length es) w.events → f ≡ leb ((4 * length es + length ss + 2) * n) w.outputs
+    → prepare n w ss es ≡ first_of (unless b 13 ∷ validate n w ss es ∷ unless f 14 ∷ [])
 unfolding prepare
-prepare-by n w ss rs ws count {b} {f} p t = rw (packed-length rs ws count, ← p, ← t)
+prepare-by n w ss es {b} {f} p t = rw (← p, ← t)
 
 first_one : (o : Option ℕ) → first_of (o ∷ []) ≡ o
 first_one none = refl
 first_one (some c) = refl
 
 pub entry_at :
-    (k : LinearPk) (w : Window) (ss : List Float) (es : List Event) (count : ℕ) {j : LinearPk} → leb count most_events ≡ true
+    (k : LinearPk) (w : Window) (ss : List Float) (es : List Event) {j : LinearPk} → leb (length es) most_events ≡ true
     → leb (length ss) most_samples ≡ true → sound k ≡ done j
-    → prepare_entry k w ss es count ≡ prepare (state_count k) w ss (take count es)
+    → prepare_entry k w ss es ≡ prepare (state_count k) w ss es
 unfolding prepare_entry
-entry_at k w ss es count p q h = rw (p, q, h) (first_one (prepare (state_count k) w ss (take count es)))
+entry_at k w ss es p q h = rw (p, q, h) (first_one (prepare (state_count k) w ss es))
 
 -- ---- 0 stands for none
 -- a number above 0 is that of the first test that fails
@@ -68,22 +66,22 @@ validate-passes n w ss es = on (window_passes w) (all (within w) ss) (events_pas
     on false c d h = no_number {c = 9} h
 
 -- so it is 13; `validate`'s number; 14; none
-module _ (n : ℕ) (w : Window) (ss : List Float) (rs : List (List Float)) (ws : List (List ℕ)) (count : ℕ) where
-  pub budget_fails : w.events < count → 13 ≡ option_number (prepare n w ss (packed rs ws count))
-  budget_fails h = rw (prepare-by n w ss rs ws count refl refl, lt-leb _ _ h)
+module _ (n : ℕ) (w : Window) (ss : List Float) (es : List Event) where
+  pub budget_fails : w.events < length es → 13 ≡ option_number (prepare n w ss es)
+  budget_fails h = rw (prepare-by n w ss es refl refl, lt-leb _ _ h)
 
-  module _ (h : count ≤ w.events) where
-    pub validate-fails : {c : ℕ} → 1 ≤ c → c ≡ option_number (validate n w ss (packed rs ws count)) → c ≡ option_number (prepare n w ss (packed rs ws count))
+  module _ (h : length es ≤ w.events) where
+    pub validate-fails : {c : ℕ} → 1 ≤ c → c ≡ option_number (validate n w ss es) → c ≡ option_number (prepare n w ss es)
     validate-fails l e =
-        rw (prepare-by n w ss rs ws count refl refl, le-leb _ _ h) (first_refused (validate n w ss (packed rs ws count))
-        (unless (leb ((4 * count + length ss + 2) * n) w.outputs) 14 ∷ []) l e)
+        rw (prepare-by n w ss es refl refl, le-leb _ _ h) (first_refused (validate n w ss es)
+        (unless (leb ((4 * length es + length ss + 2) * n) w.outputs) 14 ∷ []) l e)
 
-    module _ (e : 0 ≡ option_number (validate n w ss (packed rs ws count))) where
-      pub rows_fail : w.outputs < (4 * count + length ss + 2) * n → 14 ≡ option_number (prepare n w ss (packed rs ws count))
-      rows_fail g = rw (prepare-by n w ss rs ws count refl refl, le-leb _ _ h, validate-passes n w ss (packed rs ws count) e, lt-leb _ _ g)
+    module _ (e : 0 ≡ option_number (validate n w ss es)) where
+      pub rows_fail : w.outputs < (4 * length es + length ss + 2) * n → 14 ≡ option_number (prepare n w ss es)
+      rows_fail g = rw (prepare-by n w ss es refl refl, le-leb _ _ h, validate-passes n w ss es e, lt-leb _ _ g)
 
-      pub prepares : (4 * count + length ss + 2) * n ≤ w.outputs → 0 ≡ option_number (prepare n w ss (packed rs ws count))
-      prepares g = rw (prepare-by n w ss rs ws count refl refl, le-leb _ _ h, validate-passes n w ss (packed rs ws count) e, le-leb _ _ g)
+      pub prepares : (4 * length es + length ss + 2) * n ≤ w.outputs → 0 ≡ option_number (prepare n w ss es)
+      prepares g = rw (prepare-by n w ss es refl refl, le-leb _ _ h, validate-passes n w ss es e, le-leb _ _ g)
 
 pub prepare-passes : (n : ℕ) (w : Window) (ss : List Float) (es : List Event) → 0 ≡ option_number (prepare n w ss es) → prepare n w ss es ≡ none
 unfolding prepare validate

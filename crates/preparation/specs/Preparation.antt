@@ -1,5 +1,5 @@
 -- `prepare_simulation` of the library: which test refuses first.
-use Rattle.std.specs.Prelude.{◌&&◌, List, [], ◌∷◌, ℕ, leb, length, take, Float}
+use Rattle.std.specs.Prelude.{◌&&◌, List, [], ◌∷◌, ℕ, leb, length, Float}
 use Rattle.std.proofs.Math.Option.{Option, some, none}
 use Rattle.limits.specs.Limits.{most_events, most_samples}
 use Rattle.refusal.specs.Result.{Result, refused, done}
@@ -16,11 +16,11 @@ abbrev pub own_number : Result LinearPk → Option ℕ
 own_number (refused c) = some c
 own_number (done k) = none
 
--- `prepare_simulation` of the first `count` events: 5, the kernel's own test, the preparation
-unfoldable pub prepare_entry : LinearPk → Window → List Float → List Event → ℕ → Option ℕ
-prepare_entry k w ss es count =
+-- `prepare_simulation`: 5, the kernel's own test, the preparation
+unfoldable pub prepare_entry : LinearPk → Window → List Float → List Event → Option ℕ
+prepare_entry k w ss es =
     first_of
-    (unless (leb count most_events && leb (length ss) most_samples) 5
+    (unless (leb (length es) most_events && leb (length ss) most_samples) 5
     ∷ own_number (sound k)
-    ∷ prepare (state_count k) w ss (take count es)
+    ∷ prepare (state_count k) w ss es
     ∷ [])

@@ -1,18 +1,15 @@
 // The tests of a window with its samples and events: 10, 11, 12 event by event.
 #![tactic(auto)]
 
-ghost use Rattle.std.specs.Prelude.{◌≡◌, ◌≤◌, ◌<◌, []};
-ghost use Rattle.limits.specs.Limits.{most_events};
-ghost use Rattle.binary64.specs.Lists.{any, all};
+ghost use Rattle.std.specs.Prelude.{◌≡◌, [], reverse};
+ghost use Rattle.binary64.specs.Lists.{all};
 ghost use Rattle.protocol.specs.Prepare.{validate as validateOf, within as withinOf, event_values_pass, event_passes, events_pass, window_passes};
-ghost use Rattle.events.specs.Packed.{event_at, packed};
-ghost use Rattle.preparation_validation.specs.Seen.{seen, repeated};
+ghost use Rattle.preparation_validation.specs.Seen.{repeated};
 ghost use Rattle.refusal.specs.Numbers.{reply_number};
 ghost use Rattle.preparation_validation.specs.Validation.{option_number};
 
-use events::{Reals, Words};
 use protocol::{Event, Window};
-use refusal::{Refusal, Reply};
+use refusal::Refusal;
 
 // Finite and in the window, ends included.
 pub fn within(window: Window, time: f64) -> bool
@@ -22,80 +19,62 @@ pub fn within(window: Window, time: f64) -> bool
 }
 
 // Whether both are resets, of one time and one order.
-fn same_reset(reset: Event, event: Event) -> bool
-    ensures { result ≡ repeated reset event }
+fn same_reset(reset: &Event, event: &Event) -> bool
+    ensures { result ≡ repeated reset.now event.now }
 {
-    match reset {
-        Event::Bolus { .. } => false,
-        Event::Infusion { .. } => false,
-        Event::Reset { time, order, .. } => match event {
-            Event::Bolus { .. } => false,
-            Event::Infusion { .. } => false,
+    match (reset, event) {
+        (
+            Event::Reset { time, order, .. },
             Event::Reset {
                 time: t,
                 order: o,
                 ..
-            } => (t == time) & (o == order),
-        },
+            },
+        ) => (*t == *time) & (*o == *order),
+        _ => false,
     }
 }
 
-// Whether one of the first i events is a reset with the time and order of this one.
-fn repeats(reals: &Reals, words: &Words, i: usize, reset: Event) -> bool
-    requires { i ≤ most_events }
-    ensures { result ≡ any (repeated reset) (seen reals.now words.now i) }
-{
-    let mut found = false;
-    for k in 0..i {
-        found = same_reset(reset, events::event_at(reals, words, k)) | found;
-    }
-    found
-}
-
-// An event's values, with the i events ahead of it.
-fn values_pass(window: Window, reals: &Reals, words: &Words, i: usize, event: Event) -> bool
-    requires { i ≤ most_events }
-    ensures { result ≡ event_values_pass window (seen reals.now words.now i) event }
+// An event's values, with the events ahead of it.
+fn values_pass(window: Window, seen: &[Event], event: &Event) -> bool
+    ensures { result ≡ event_values_pass window (reverse seen.now) event.now }
 {
     match event {
-        Event::Bolus { amount, .. } => binary64::is_nonnegative(amount),
+        Event::Bolus { amount, .. } => binary64::is_nonnegative(*amount),
         Event::Infusion {
             time,
             amount,
             duration,
             ..
         } => {
-            binary64::is_nonnegative(amount)
-                & (binary64::is_positive(duration)
-                    & ((time < time + duration)
-                        & ((time + duration <= window.end)
-                            & binary64::is_finite(amount / duration))))
+            let end = *time + *duration;
+            binary64::is_nonnegative(*amount)
+                & (binary64::is_positive(*duration)
+                    & ((*time < end)
+                        & ((end <= window.end) & binary64::is_finite(*amount / *duration))))
         }
         Event::Reset { value, .. } => {
-            binary64::is_finite(value) & !repeats(reals, words, i, event)
+            binary64::is_finite(*value) & !seen.iter().any(|other| same_reset(event, other))
         }
     }
 }
 
-// Whether the event at place i passes 12.
-fn event_passes(n: usize, window: Window, reals: &Reals, words: &Words, i: usize) -> bool
-    requires { i < most_events }
-    ensures { result ≡ event_passes n window (seen reals.now words.now i) (event_at reals.now words.now i) }
+// Whether an event passes 12, with the events ahead of it.
+fn event_passes(n: usize, window: Window, seen: &[Event], event: &Event) -> bool
+    ensures { result ≡ event_passes n window (reverse seen.now) event.now }
 {
-    let event = events::event_at(reals, words, i);
-    within(window, events::time_of(event))
-        & ((events::target_of(event) < n) & values_pass(window, reals, words, i, event))
+    within(window, event.time()) & ((event.target() < n) & values_pass(window, seen, event))
 }
 
-pub fn events_pass(n: usize, window: Window, reals: &Reals, words: &Words, count: usize) -> bool
-    requires { count ≤ most_events }
-    ensures { result ≡ events_pass n window [] (packed reals.now words.now count) }
+pub fn events_pass(n: usize, window: Window, events: &[Event]) -> bool
+    ensures { result ≡ events_pass n window [] events.now }
 {
-    let mut ok = true;
-    for i in 0..count {
-        ok = ok & event_passes(n, window, reals, words, i);
+    for (i, event) in events.iter().enumerate() {
+        if !event_passes(n, window, &events[..i], event) {
+            return false;
+        }
     }
-    ok
+    true
 }
 
 // Ends finite and increasing, tolerances finite and above 0.
@@ -111,35 +90,21 @@ fn window_passes(window: Window) -> bool
 fn all_within(window: Window, samples: &[f64]) -> bool
     ensures { result ≡ all (withinOf window) samples.now }
 {
-    let mut ok = true;
-    let mut i = 0usize;
-    while i < samples.len() {
-        ok = ok & within(window, samples[i]);
-        i += 1;
-    }
-    ok
+    samples.iter().all(|sample| within(window, *sample))
 }
 
-// Whether window, samples and packed events pass for n states: 10, 11, 12.
-pub fn validate(
-    n: usize,
-    window: Window,
-    samples: &[f64],
-    reals: &Reals,
-    words: &Words,
-    count: usize,
-) -> Reply
-    requires { count ≤ most_events }
-    ensures { reply_number result ≡ option_number (validateOf n window samples.now (packed reals.now words.now count)) }
+// Whether window, samples and events pass for n states: 10, 11, 12.
+pub fn validate(n: usize, window: Window, samples: &[f64], events: &[Event]) -> Result<(), Refusal>
+    ensures { reply_number result ≡ option_number (validateOf n window samples.now events.now) }
 {
     if !window_passes(window) {
-        return Reply::Refused(Refusal::Window);
+        return Err(Refusal::Window);
     }
     if !all_within(window, samples) {
-        return Reply::Refused(Refusal::Sample);
+        return Err(Refusal::Sample);
     }
-    if !events_pass(n, window, reals, words, count) {
-        return Reply::Refused(Refusal::Event);
+    if !events_pass(n, window, events) {
+        return Err(Refusal::Event);
     }
-    Reply::Done
+    Ok(())
 }

@@ -11,7 +11,7 @@ ghost use Rattle.printout.specs.Replies.{Prints, refusal as refusal_of};
 
 use printout_lines::{put_head, put_ordered, put_refused, run_length};
 use printout_rows::put_rows;
-use refusal::{Refusal, Reply};
+use refusal::Refusal;
 
 // The text of a run that is not refused.
 fn put_run(
@@ -62,28 +62,20 @@ pub fn print_run(
 }
 
 // Whether the printout is an answer, and how many bytes it has, 0 where the output is too short; an answer without room is 4.
+// The length is no value of `Ok`: the text of a refusal has bytes too.
 #[derive(Clone, Copy)]
 pub struct PrintReply {
-    pub reply: Reply,
+    pub reply: Result<(), Refusal>,
     pub length: usize,
 }
 
-fn is_answer(reply: Reply) -> bool
-    ensures { result ≡ eqb (reply_number reply) 0 }
-{
-    match reply {
-        Reply::Refused(_) => false,
-        Reply::Done => true,
-    }
-}
-
 // A text has bytes: none of them stands for no room. A refusal keeps its number without it.
-pub fn reply_of(reply: Reply, length: usize) -> PrintReply
+pub fn reply_of(reply: Result<(), Refusal>, length: usize) -> PrintReply
     ensures { (reply_number result.reply ≡ number_or_short (reply_number reply) (eqb length 0)) × (result.length ≡ length) }
 {
-    if is_answer(reply) & (length == 0) {
+    if reply.is_ok() & (length == 0) {
         return PrintReply {
-            reply: Reply::Refused(Refusal::ShortSlice),
+            reply: Err(Refusal::ShortSlice),
             length,
         };
     }
@@ -94,7 +86,7 @@ pub fn reply_of(reply: Reply, length: usize) -> PrintReply
 pub fn print_refusal(refusal: Refusal, out: &mut [u8]) -> PrintReply
     ensures { Prints (refusal_of (refusal_number refusal)) out.old result out.new }
 {
-    let number = refusal::number(Reply::Refused(refusal));
+    let number = refusal::number(Err(refusal));
     let reals = [0.0f64; 1];
     let sides = [0u8; 1];
     let length = print_run(
@@ -108,5 +100,5 @@ pub fn print_refusal(refusal: Refusal, out: &mut [u8]) -> PrintReply
         &reals[..],
         out,
     );
-    reply_of(Reply::Refused(refusal), length)
+    reply_of(Err(refusal), length)
 }

@@ -41,10 +41,8 @@ pub fn closes(
     ensures { result ≡ closesOf tolerance (take n starts.now) (take n ends.now) (take n residual.now) }
 {
     let mut ok = true;
-    let mut k = 0usize;
-    while k < n {
+    for k in 0..n {
         ok = ok & state_closes(tolerance, starts[k], ends[k], residual[k]);
-        k += 1;
     }
     ok
 }
@@ -88,10 +86,8 @@ pub fn put_lines(
     ensures { Wrote (cycle_lines tolerance (take n starts.now) (take n ends.now)) 0 out.old result out.new }
 {
     let mut place = 0usize;
-    let mut k = 0usize;
-    while k < n {
+    for k in 0..n {
         place = cycle_line(out, place, tolerance, starts[k], ends[k]);
-        k += 1;
     }
     place
 }

@@ -4,7 +4,7 @@ use Prim.Native.Nat.{ℕ, ◌+◌}
 use native.Mathlib.Omega.{arith}
 use lib.ListN.{length, length-append}
 use lib.Ieee.{Float}
-use Rattle.printout_numbers.specs.Digits.{places, decimal, double_text}
+use Rattle.printout_numbers.specs.Digits.{places}
 use Rattle.printout_numbers.proofs.Counts.{decimal-length, double_length}
 use Rattle.printout_lines.specs.Lines.{head_line, ordered_line, refused_text}
 
@@ -20,6 +20,4 @@ pub refused-text-length : (number : ℕ) (time : Float) → length (refused_text
 unfolding refused_text
 refused-text-length number time = simp (length-append, decimal-length, double_length) (omega arith)
 
-pub refused-parts : (number : ℕ) (time : Float)
-    → (length (refused_text number time) ≡ 26 + places 19 number) × (length (decimal number) ≡ places 19 number) × (length (double_text time) ≡ 16)
-refused-parts number time = (refused-text-length number time, decimal-length number, double_length time)
+pub ruleset lengths = (head_length, ordered-length, refused-text-length, decimal-length, double_length)

@@ -9,6 +9,7 @@ use lib.Dec.{eqb, ltb}
 use lib.ListN.{get_or}
 use Rattle.limits.specs.Limits.{states}
 use Rattle.printout_numbers.specs.Digits.{places}
+use Rattle.printout_numbers.proofs.Counts.{places-most}
 use Rattle.printout_rows.specs.Row.{side_length, row_length}
 use Rattle.printout_rows.specs.Rows.{rows_length}
 
@@ -37,3 +38,5 @@ places_mono (suc m) w v h = on (places_mono m (w / 10) (v / 10) (omega arith)) (
     on i true p false q = omega arith
     on i false p true q = omega (arith, ltb-false w 10 p, ltb-true v 10 q)
     on i false p false q = omega arith
+
+pub ruleset most = (places-most, rows-most, side-most)

@@ -12,6 +12,7 @@ ghost use Rattle.printout_lines.specs.Length.{text_length};
 use printout_numbers::{places, put_bits, put_decimal, put_text};
 
 // "rows" and their number.
+#[tactic(auto, using(crate::proofs::Lengths::lengths))]
 pub fn put_head(out: &mut [u8], rows: usize) -> usize
     requires { length (head_line rows) ≤ length out.old }
     ensures { Wrote (head_line rows) 0 out.old result out.new }
@@ -22,6 +23,7 @@ pub fn put_head(out: &mut [u8], rows: usize) -> usize
 }
 
 // "ordered" and the sum.
+#[tactic(auto, using(crate::proofs::Lengths::lengths))]
 pub fn put_ordered(out: &mut [u8], at: usize, ordered: f64) -> usize
     requires { at + 25 ≤ length out.old }
     ensures { Wrote (ordered_line ordered) at out.old result out.new }
@@ -32,6 +34,7 @@ pub fn put_ordered(out: &mut [u8], at: usize, ordered: f64) -> usize
 }
 
 // The text of a refusal.
+#[tactic(auto, using(crate::proofs::Lengths::lengths))]
 pub fn put_refused(out: &mut [u8], number: u64, time: f64) -> usize
     requires { length (refused_text number time) ≤ length out.old }
     ensures { Wrote (refused_text number time) 0 out.old result out.new }
@@ -54,16 +57,15 @@ fn rows_length(rows: usize, n: usize, sides: &[u8]) -> usize
     requires { (rows ≤ length sides.now) × (n ≤ states) × (rows ≤ most_rows) }
     ensures { result ≡ rows_length n rows sides.now }
 {
-    let mut sum = 0usize;
-    let mut k = 0usize;
-    while k < rows {
-        sum = sum + (18 + side_length(sides[k]) + 17 * n);
-        k += 1;
+    let mut sum = 0;
+    for side in &sides[..rows] {
+        sum += 18 + side_length(*side) + 17 * n;
     }
     sum
 }
 
 // How many bytes the text has.
+#[tactic(auto, using(crate::proofs::Most::most), unfolding(crate::specs::Length::text_length))]
 pub fn run_length(number: u64, rows: usize, n: usize, sides: &[u8]) -> usize
     requires { (rows ≤ length sides.now) × (n ≤ states) × (rows ≤ most_rows) }
     ensures { result ≡ text_length number rows n sides.now }

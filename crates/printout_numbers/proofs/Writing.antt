@@ -1,12 +1,14 @@
 -- Texts written one after the other.
 use mathlib.Core.Path.{◌≡◌, refl, sym, ap, ap₂, ◌∙◌}
-use mathlib.Core.List.{List, [], ◌∷◌, ◌++◌}
+use mathlib.Core.List.{List, [], ◌∷◌, ◌++◌, append_assoc}
 use Prim.Native.Nat.{ℕ, zero, suc, ◌+◌, ◌-◌, ◌/◌, ◌%◌, ◌≤◌, ◌<◌}
 use native.Mathlib.Nat.{add-zero, add_assoc}
 use native.Mathlib.Numerals.{add-one, sub-one}
 use native.Mathlib.Omega.{arith}
-use lib.ListN.{length, get_or, set, take, length-append}
-use lib.Seq.{sets, set_comm, take-suc, length-take-le}
+use lib.ListN.{length, get_or, set, take, drop, length-append, length-drop}
+use lib.Seq.{sets, set_comm, take-suc, drop-drop, length-take-le}
+use borrow.Rule.Slice.PartMut.{mid_of, put_mid, same_len_mid}
+use Rattle.std.proofs.lemmas.List.Edits.{sets-eq}
 use Rattle.printout_numbers.specs.Digits.{glyph, digits}
 use Rattle.printout_numbers.specs.Written.{Wrote}
 
@@ -75,3 +77,14 @@ pub digits-done : (out : List ℕ) (at b i w : ℕ) {all : List ℕ} → i ≤ 0
 unfolding digits
 digits-done out at b zero w h e = e
 digits-done out at b (suc i) w h e = absurd (omega arith)
+
+-- a text copied over the cells from `at` on, `n` of them
+pub wrote_part : (at n : ℕ) (text old part : List ℕ) → at + length text ≤ length old → n ≡ length text → part ≡ text → Wrote text at old (at + length text) (put_mid at n old part)
+wrote_part at n text old part h e q = record {
+  place = refl;
+  cells = ap₂ (λ (k : ℕ) (l : List ℕ). put_mid at k old l) e q ∙ ap (λ (l : List ℕ). take at old ++ (text ++ l)) (drop-drop (length text) at old) ∙ sym (append_assoc (take at old) text _) ∙ sym (sets-eq text old at h);
+  same = same_len_mid at n old part (ap length q ∙ sym e ∙ sym (mid_all at n old (omega arith)));
+}
+  where
+    mid_all : (a k : ℕ) (xs : List ℕ) → a + k ≤ length xs → length (mid_of a k xs) ≡ k
+    mid_all a k xs g = length-take-le k (drop a xs) (omega (arith, length-drop a xs))

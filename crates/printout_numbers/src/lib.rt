@@ -6,6 +6,7 @@ ghost use Rattle.printout_numbers.specs.Digits.{glyph, digits, places as places_
 ghost use Rattle.printout_numbers.specs.Written.{Wrote};
 
 // The code of a digit.
+#[tactic(auto, unfolding(crate::specs::Digits::glyph))]
 fn digit(d: u64) -> u8
     requires { d < 16 }
     ensures { result ≡ glyph d }
@@ -19,11 +20,9 @@ fn put_digits(out: &mut [u8], at: usize, base: u64, count: usize, word: u64) -> 
     ensures { Wrote (digits base count word) at out.old result out.new }
 {
     let mut left = word;
-    let mut i = count;
-    while i > 0 {
-        i -= 1;
+    for i in (0..count).rev() {
         out[at + i] = digit(left % base);
-        left = left / base;
+        left /= base;
     }
     at + count
 }
@@ -32,18 +31,10 @@ fn put_digits(out: &mut [u8], at: usize, base: u64, count: usize, word: u64) -> 
 pub fn places(word: u64) -> usize
     ensures { result ≡ places_of 19 word }
 {
-    let mut left = word;
-    let mut most = 19usize;
-    while most > 0 {
-        if left < 10 {
-            return 20 - most;
-        }
-        left = left / 10;
-        most -= 1;
-    }
-    20
+    word.max(1).ilog10() as usize + 1
 }
 
+#[tactic(auto, using(crate::proofs::Counts::lengths), unfolding(crate::specs::Digits::decimal))]
 pub fn put_decimal(out: &mut [u8], at: usize, word: u64) -> usize
     requires { at + length (decimal word) ≤ length out.old }
     ensures { Wrote (decimal word) at out.old result out.new }
@@ -55,13 +46,15 @@ pub fn put_decimal(out: &mut [u8], at: usize, word: u64) -> usize
 pub fn bits(x: f64) -> u64
     ensures { result ≡ bits_of x }
 {
-    if x != x {
-        return 0x7ff8_0000_0000_0000;
+    if x.is_nan() {
+        0x7ff8_0000_0000_0000
+    } else {
+        x.to_bits()
     }
-    f64::to_bits(x)
 }
 
 // Its bits in hexadecimal.
+#[tactic(auto, unfolding(crate::specs::Digits::double_text, crate::specs::Digits::hexadecimal))]
 pub fn put_bits(out: &mut [u8], at: usize, x: f64) -> usize
     requires { at + 16 ≤ length out.old }
     ensures { Wrote (double_text x) at out.old result out.new }
@@ -73,10 +66,7 @@ pub fn put_text(out: &mut [u8], at: usize, text: &[u8]) -> usize
     requires { at + length text.now ≤ length out.old }
     ensures { Wrote text.now at out.old result out.new }
 {
-    let mut i = 0usize;
-    while i < text.len() {
-        out[at + i] = text[i];
-        i += 1;
-    }
-    at + i
+    let end = at + text.len();
+    out[at..end].copy_from_slice(text);
+    end
 }

@@ -3,7 +3,7 @@ use mathlib.Core.Path.{◌≡◌, refl, ap, ap₂, ◌∙◌}
 use mathlib.Core.Logic.{⊎_elim}
 use mathlib.Core.List.{List}
 use Prim.Native.Nat.{ℕ, zero, suc, ◌+◌, ◌-◌, ◌*◌, ◌≤◌, ◌<◌}
-use native.Mathlib.Nat.{suc-mul, mul-le-mul_right, le_of_suc-le-suc, eq-or-lt_of_le}
+use native.Mathlib.Nat.{suc-mul, le_of_suc-le-suc, eq-or-lt_of_le}
 use native.Mathlib.Omega.{arith}
 use lib.ListN.{length, get_or, take, drop, length-append, length-drop}
 use lib.Seq.{length-take-le}
@@ -35,7 +35,3 @@ module _ (n : ℕ) (times : List Float) (sides : List ℕ) (values : List Float)
 
 pub part-size : (a n : ℕ) → a + n - a ≡ n
 part-size a n = omega arith
-
--- the amounts of row k
-pub row_room : {A : Type 0} {rows : ℕ} (k n : ℕ) (values : List A) → k < rows → rows * n ≤ length values → k * n + n ≤ length values
-row_room k n values h l = omega (arith, suc-mul k n, mul-le-mul_right n h)

@@ -7,7 +7,7 @@ use native.Mathlib.Numerals.{add-one}
 use native.Mathlib.Omega.{arith}
 use lib.Dec.{eqb}
 use lib.ListN.{length, get_or, take, length-append}
-use lib.Seq.{take-suc}
+use lib.Seq.{take-suc, length-take-le}
 use lib.Ieee.{Float, nan}
 use Rattle.printout_numbers.specs.Digits.{double_text}
 use Rattle.printout_numbers.proofs.Counts.{double_length}
@@ -48,7 +48,4 @@ pub row_length_lem : (time : Float) (side : ℕ) (xs : List Float) → length (r
 unfolding row_line
 row_length_lem time side xs = simp (length-append, double_length, side-length, amounts-length) (omega arith)
 
-pub row_parts : (time : Float) (side : ℕ) (xs : List Float)
-    → (length (row_line time side xs) ≡ row_length (length xs) side) × (length (double_text time) ≡ 16)
-    × (length (side_text side) ≡ side_length side) × (length (amounts_text xs) ≡ 17 * length xs)
-row_parts time side xs = (row_length_lem time side xs, double_length time, side-length side, amounts-length xs)
+pub ruleset lengths = (row_length_lem, double_length, side-length, amounts-length, length-take-le)

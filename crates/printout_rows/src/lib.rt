@@ -13,11 +13,7 @@ fn put_side(out: &mut [u8], at: usize, side: u8) -> usize
     requires { at + side_length side ≤ length out.old }
     ensures { Wrote (side_text side) at out.old result out.new }
 {
-    if side == 1 {
-        put_text(out, at, b"pre")
-    } else {
-        put_text(out, at, b"post")
-    }
+    put_text(out, at, if side == 1 { b"pre" } else { b"post" })
 }
 
 fn put_amount(out: &mut [u8], at: usize, x: f64) -> usize
@@ -28,19 +24,19 @@ fn put_amount(out: &mut [u8], at: usize, x: f64) -> usize
     put_bits(out, at, x)
 }
 
+#[tactic(auto, using(crate::proofs::RowLengths::lengths))]
 fn put_amounts(out: &mut [u8], at: usize, amounts: &[f64]) -> usize
     requires { at + 17 * length amounts.now ≤ length out.old }
     ensures { Wrote (amounts_text amounts.now) at out.old result out.new }
 {
     let mut place = at;
-    let mut i = 0usize;
-    while i < amounts.len() {
-        place = put_amount(out, place, amounts[i]);
-        i += 1;
+    for x in amounts {
+        place = put_amount(out, place, *x);
     }
     place
 }
 
+#[tactic(auto, using(crate::proofs::RowLengths::lengths))]
 pub fn row_line(out: &mut [u8], at: usize, time: f64, side: u8, amounts: &[f64]) -> usize
     requires { at + length (row_line time side amounts.now) ≤ length out.old }
     ensures { Wrote (row_line time side amounts.now) at out.old result out.new }
@@ -67,12 +63,9 @@ pub fn put_rows(
     ensures { Wrote (row_lines n rows times.now sides.now values.now) at out.old result out.new }
 {
     let mut place = at;
-    let mut k = 0usize;
-    while k < rows {
+    for k in 0..rows {
         let from = k * n;
-        let end = from + n;
-        place = row_line(out, place, times[k], sides[k], &values[from..end]);
-        k += 1;
+        place = row_line(out, place, times[k], sides[k], &values[from..from + n]);
     }
     place
 }

@@ -10,11 +10,11 @@ ghost use Rattle.periodic_acceptance.specs.Entry.{steady_reply};
 ghost use Rattle.printout.specs.Replies.{Prints};
 ghost use Rattle.printout_steady.specs.SteadyReplies.{steady_printout_of};
 
-use periodic_acceptance::SteadyReply;
+use periodic_acceptance::Stop;
 use printout::PrintReply;
 use printout_lines::put_refused;
 use printout_numbers::{places, put_bits, put_text};
-use refusal::Reply;
+use refusal::Refusal;
 
 // Amount and residual of a state.
 fn state_line(out: &mut [u8], at: usize, amount: f64, residual: f64) -> usize
@@ -33,10 +33,8 @@ fn put_states(out: &mut [u8], n: usize, amounts: &[f64], residual: &[f64]) -> us
     ensures { Wrote (state_lines (take n amounts.now) (take n residual.now)) 0 out.old result out.new }
 {
     let mut place = 0usize;
-    let mut k = 0usize;
-    while k < n {
+    for k in 0..n {
         place = state_line(out, place, amounts[k], residual[k]);
-        k += 1;
     }
     place
 }
@@ -99,7 +97,7 @@ pub fn print_steady(
 
 // The printout of a reply and of n states in front of the slices.
 pub fn print_reply(
-    reply: SteadyReply,
+    reply: Result<f64, Stop>,
     n: usize,
     amounts: &[f64],
     residual: &[f64],
@@ -109,14 +107,14 @@ pub fn print_reply(
     ensures { Prints (steady_printout_of (steady_reply reply) n amounts.now residual.now) out.old result out.new }
 {
     match reply {
-        SteadyReply::Refused { refusal, time } => {
-            let number = refusal::number(Reply::Refused(refusal));
-            let length = print_steady(number, time, n, 0.0, amounts, residual, out);
-            printout::reply_of(Reply::Refused(refusal), length)
+        Err(stop) => {
+            let number = refusal::number(Err(stop.refusal));
+            let length = print_steady(number, stop.time, n, 0.0, amounts, residual, out);
+            printout::reply_of(Err(stop.refusal), length)
         }
-        SteadyReply::Solved { maximum } => {
+        Ok(maximum) => {
             let length = print_steady(0, 0.0, n, maximum, amounts, residual, out);
-            printout::reply_of(Reply::Done, length)
+            printout::reply_of(Ok(()), length)
         }
     }
 }

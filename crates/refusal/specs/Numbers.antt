@@ -1,9 +1,7 @@
 -- 01, "Who brought it on": the number of each refusal.
-use Rattle.std.specs.Prelude.{ℕ}
+use Rattle.std.specs.Prelude.{ℕ, Ok, Err, Result as Outcome}
 use Rattle.refusal.specs.declared.Refusal.{Refusal}
 use Rattle.refusal.specs.declared.Refusal.TheVariants as R
-use Rattle.refusal.specs.declared.Reply.{Reply}
-use Rattle.refusal.specs.declared.Reply.TheVariants.{Done, Refused}
 use Rattle.refusal.specs.Result.{Result, refused, done}
 
 abbrev pub refusal_number : Refusal → ℕ
@@ -35,12 +33,26 @@ refusal_number R.Scale = 35
 refusal_number R.Residual = 36
 refusal_number R.Layout = 40
 
+-- what an entry replies that hands back no value
+abbrev pub Reply : Type 0
+Reply = Outcome (Unit {0}) Refusal
+
 -- 0 stands for done
 abbrev pub reply_number : Reply → ℕ
-reply_number Done = 0
-reply_number (Refused r) = refusal_number r
+reply_number (Ok u) = 0
+reply_number (Err r) = refusal_number r
 
 -- a reply, beside the value that goes with it
 abbrev pub result_of : {A : Type 0} → Reply → A → Result A
-result_of Done a = done a
-result_of (Refused r) a = refused (refusal_number r)
+result_of (Ok u) a = done a
+result_of (Err r) a = refused (refusal_number r)
+
+-- what an entry gives: a value, or the refusal's number
+abbrev pub outcome_of : {A : Type 0} → Outcome A Refusal → Result A
+outcome_of (Ok a) = done a
+outcome_of (Err r) = refused (refusal_number r)
+
+-- the same of the part f of the value
+abbrev pub outcome_with : {A B : Type 0} → (A → B) → Outcome A Refusal → Result B
+outcome_with f (Ok a) = done (f a)
+outcome_with f (Err r) = refused (refusal_number r)

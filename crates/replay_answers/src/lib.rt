@@ -1,15 +1,17 @@
-// What programs that replay stored answers share: the text of a line, its parts, the counts of what the lines came to; the comparison of a
-// printout with the stored one.
+// What programs that replay stored answers share: the loop over the lines, the numbers of a line and what they stand for, a line's sheet, the
+// counts of what the calls replied.
 #![tactic(auto)]
 
-mod cells;
-mod line;
-mod parts;
+mod error;
+mod parameters;
+mod replay;
+mod sheet;
 mod tally;
-mod text;
+mod words;
 
-pub use cells::{CELL, TEXT, has_text, kept};
-pub use line::{Line, SHEET, read};
-pub use parts::{count, doubles, made, window};
-pub use tally::{Outcome, Tally};
-pub use text::{ROOM, end, is_comment, numbers, room};
+pub use error::LineError;
+pub use parameters::Parameters;
+pub use replay::replay_lines;
+pub use sheet::{SHEET, Sheet};
+pub use tally::Called;
+pub use words::{Words, doubles, numbers};

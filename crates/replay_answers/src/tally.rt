@@ -1,105 +1,66 @@
 // How often each entry gave each reply, and how many answers differ. A write that fails is passed over.
-ghost use Rattle.std.specs.Prelude.{◌<◌};
+use std::alloc::{AllocError, Global};
+use std::collections::BTreeMap;
+use std::fmt::Display;
 
-// One above the largest reply.
-const REPLIES: usize = 41;
-
-// Entries are 0 to 3.
-const COUNTS: usize = 4 * REPLIES;
-
-// What a line came to.
+// What a line's call came to: the entry, its reply's number, whether the answer is the stored one.
 #[derive(Clone, Copy)]
-pub enum Outcome {
-    Comment,
-    Malformed,
-    Called { entry: u64, reply: u64, same: bool },
+pub struct Called<E> {
+    pub entry: E,
+    pub reply: u64,
+    pub same: bool,
 }
 
-#[derive(Clone, Copy)]
-pub struct Tally {
-    pub counts: [u64; COUNTS],
-    pub lines: u64,
-    pub answers: u64,
-    pub differ: u64,
+#[derive(Drop)]
+pub struct Tally<E: Ord> {
+    counts: BTreeMap<(E, u64), u64>,
+    lines: u64,
+    answers: u64,
+    differ: u64,
 }
 
-// n + 1, held to the largest u64.
-fn one_more(n: u64) -> u64 {
-    if n < u64::MAX { n + 1 } else { n }
-}
-
-impl Tally {
-    pub fn new() -> Self {
-        let counts = [0u64; COUNTS];
+impl<E: Ord + Display + Drop> Tally<E> {
+    pub fn new(alloc: Global) -> Self {
         Tally {
-            counts,
+            counts: BTreeMap::new(alloc),
             lines: 0,
             answers: 0,
             differ: 0,
         }
     }
 
-    // With a difference in the present line, which is shown.
-    fn differing(mut self, rt: &impl Print) -> Self {
-        self.differ = one_more(self.differ);
-        let lines = self.lines;
-        let _ = println!(rt; "line {lines} differs");
-        self
+    // With a line that is a comment.
+    pub fn skip(&mut self) {
+        self.lines = self.lines.saturating_add(1);
     }
 
-    // With a reply of an entry.
-    fn replied(mut self, entry: u64, reply: u64) -> Self {
-        if entry > 3 {
-            return self;
+    // With a line and what its call came to, if the line is in the layout. A difference is shown.
+    pub fn add(&mut self, rt: &impl Print, called: Option<Called<E>>) -> Result<(), AllocError> {
+        self.lines = self.lines.saturating_add(1);
+        self.answers = self.answers.saturating_add(1);
+        let mut same = false;
+        if let Some(called) = called {
+            same = called.same;
+            let count = self
+                .counts
+                .entry((called.entry, called.reply))?
+                .or_insert(0);
+            *count = count.saturating_add(1);
         }
-        if reply > 40 {
-            return self;
+        if !same {
+            self.differ = self.differ.saturating_add(1);
+            let lines = self.lines;
+            let _ = println!(rt; "line {lines} differs");
         }
-        let at = entry as usize * REPLIES + reply as usize;
-        self.counts[at] = one_more(self.counts[at]);
-        self
+        Ok(())
     }
 
-    // With what a further line came to.
-    pub fn added(mut self, rt: &impl Print, outcome: Outcome) -> Self {
-        self.lines = one_more(self.lines);
-        match outcome {
-            Outcome::Comment => self,
-            Outcome::Malformed => self.answered().differing(rt),
-            Outcome::Called { entry, reply, same } => {
-                let next = self.answered().replied(entry, reply);
-                if same { next } else { next.differing(rt) }
-            }
+    pub fn print(&self, rt: &impl Print) {
+        for ((entry, reply), count) in &self.counts {
+            let _ = println!(rt; "{entry} {reply}: {count}");
         }
-    }
-
-    fn answered(mut self) -> Self {
-        self.answers = one_more(self.answers);
-        self
-    }
-
-    // The counts of one entry, of the replies that were met.
-    pub fn print_entry(self, rt: &impl Print, entry: usize, name: &[u8])
-        requires { entry < 4 }
-    {
-        let counts = self.counts;
-        for reply in 0..REPLIES {
-            print_count(rt, name, reply as u64, counts[entry * REPLIES + reply]);
-        }
-    }
-
-    pub fn print_total(self, rt: &impl Print) {
         let answers = self.answers;
         let differ = self.differ;
         let _ = println!(rt; "{answers} answers, {differ} differ");
     }
-}
-
-// A line for a reply that was met.
-fn print_count(rt: &impl Print, name: &[u8], reply: u64, count: u64) {
-    if count == 0 {
-        return;
-    }
-    let _ = rt.write_all(name);
-    let _ = println!(rt; " {reply}: {count}");
 }

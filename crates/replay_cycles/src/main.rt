@@ -2,30 +2,10 @@
 // answer; a line that starts with '#' is a comment. Prints how often each reply was given, and how many answers differ.
 #![tactic(auto)]
 
-mod compare;
 mod replay;
-mod shape;
 
-use replay_answers::Tally;
+use std::io;
 
-// What the lines of a text came to.
-fn replayed(rt: &impl Print, text: &[u8]) -> Tally {
-    let mut tally = Tally::new();
-    let mut at = 0usize;
-    while at < text.len() {
-        let end = replay_answers::end(text, at, b'\n');
-        let outcome = replay::replay(&text[at..end]);
-        let next = tally.added(rt, outcome);
-        tally = next;
-        at = end + 1;
-    }
-    tally
-}
-
-fn main(rt: HostRuntime) {
-    let mut input = replay_answers::room();
-    let n = rig_streams::read_full(&mut rt.stdin(), &mut input);
-    let tally = replayed(&rt, &input[..n]);
-    tally.print_entry(&rt, 0, b"normalize_periodic_cycle");
-    tally.print_total(&rt);
+fn main(rt: HostRuntime) -> io::Result<()> {
+    replay_answers::replay_lines(&rt, |line| replay::replay(rt.alloc(), line))
 }

@@ -1,69 +1,82 @@
 // One line: a fold of the library, and the answer that it must give.
-ghost use Rattle.std.specs.Prelude.{◌≤◌, length};
-ghost use Rattle.replay_cycles.specs.Places.{Held};
-
-use crate::compare::{CELL, CELLS};
-use crate::shape::{CLEARANCE, DEPOT, EXCHANGE, FIRST_EVENT, Shape, WINDOW};
-use crate::{compare, shape};
-use capi_fold::FoldedWords;
-use linear_pk::LinearPk;
+use limits::EVENT_SIZE;
 use protocol::Window;
-use replay_answers::{Outcome, ROOM};
+use replay_answers::{Called, LineError, Parameters, Words, doubles, numbers};
+use std::alloc::Global;
+use std::fmt;
 
-// The fold of the events whose words end at a place.
-fn fold(
-    kernel: LinearPk,
+// The most volumes, exchanges, events, samples and pieces of a line.
+const VOLUMES: usize = 3;
+
+const EXCHANGES: usize = 2;
+
+const EVENTS: usize = 6;
+
+const SAMPLES: usize = 5;
+
+const PIECES: usize = 18;
+
+// Words that are lent to a fold, above all that a line's pieces need, and what each holds before it.
+const CELLS: usize = 120;
+
+const CELL: u64 = 99;
+
+// The entry that the lines call.
+#[derive(Clone, Copy, PartialEq, Eq, PartialOrd, Ord)]
+pub struct NormalizePeriodicCycle;
+
+impl fmt::Display for NormalizePeriodicCycle {
+    fn fmt<W: fmt::Write>(&self, f: &mut fmt::Formatter<W>) -> fmt::Result {
+        f.write_str("normalize_periodic_cycle")
+    }
+}
+
+// The arguments of a fold; an event is its words.
+#[derive(Drop)]
+struct Cycle<'a> {
+    parameters: Parameters,
     window: Window,
-    words: &[u64],
-    end: usize,
-    samples: &[f64],
-    pieces: &mut [u64],
-) -> FoldedWords
-    requires { (18 ≤ end) × (end ≤ length words.now) }
-{
-    capi_fold::fold_words(kernel, window, &words[FIRST_EVENT..end], samples, pieces)
+    events: &'a [u64],
+    samples: Vec<f64>,
 }
 
-// The fold of a line's cycle.
-fn folded(words: &[u64; ROOM], shape: Shape, pieces: &mut [u64]) -> FoldedWords
-    requires { Held shape }
-{
-    let made = replay_answers::made(words, CLEARANCE, EXCHANGE, DEPOT);
-    let kernel = made.kernel;
-    let at = shape::samples_at(shape.events);
-    let samples = replay_answers::doubles(words, at);
-    let s = replay_answers::count(words, at, &samples);
-    fold(
-        kernel,
-        replay_answers::window(words, WINDOW),
-        words,
-        at,
-        &samples[..s],
-        pieces,
-    )
-}
-
-// Folds the cycle of a line's numbers and compares.
-fn compared(words: &[u64; ROOM], count: usize) -> Outcome {
-    let shape = shape::shape_of(words);
-    if !shape::has_shape(words, count, shape) {
-        return Outcome::Malformed;
-    }
-    let mut pieces = [CELL; CELLS];
-    let told = folded(words, shape, &mut pieces);
-    let reply = told.reply;
-    Outcome::Called {
-        entry: 0,
-        reply: refusal::number(reply),
-        same: compare::agrees(told, &pieces, words, shape),
+impl<'a> Cycle<'a> {
+    fn read(alloc: Global, words: &mut Words<'a>) -> Result<Self, LineError> {
+        Ok(Cycle {
+            parameters: Parameters::read(alloc, words, VOLUMES, EXCHANGES)?,
+            window: words.window()?,
+            events: words.items(EVENTS, EVENT_SIZE)?,
+            samples: doubles(alloc, words.items(SAMPLES, 1)?)?,
+        })
     }
 }
 
-pub fn replay(line: &[u8]) -> Outcome {
-    if replay_answers::is_comment(line) {
-        return Outcome::Comment;
-    }
-    let mut words = [0u64; ROOM];
-    let count = replay_answers::numbers(line, &mut words);
-    compared(&words, count)
+pub fn replay(alloc: Global, line: &str) -> Result<Called<NormalizePeriodicCycle>, LineError> {
+    let numbers = numbers(alloc, line)?;
+    let mut words = Words::new(numbers.as_slice());
+    let cycle = Cycle::read(alloc, &mut words)?;
+    let number = words.word()?;
+    let pieces = words.items(PIECES, EVENT_SIZE)?;
+    words.end()?;
+    let mut cells = vec![in alloc; CELL; CELLS]?;
+    let folded = capi_fold::fold_words(
+        cycle.parameters.made().unwrap_or(linear_pk::none()),
+        cycle.window,
+        cycle.events,
+        cycle.samples.as_slice(),
+        cells.as_mut_slice(),
+    );
+    // The words behind the pieces stay as they were.
+    let mut expected = Vec::new(alloc);
+    expected.extend_from_slice(pieces)?;
+    expected.resize(CELLS, CELL)?;
+    let (reply, count) = match folded {
+        Ok(count) => (0, count),
+        Err(refusal) => (refusal::number(Err(refusal)), 0),
+    };
+    Ok(Called {
+        entry: NormalizePeriodicCycle,
+        reply,
+        same: reply == number && count == pieces.len() / EVENT_SIZE && cells == expected,
+    })
 }

@@ -4,28 +4,8 @@
 
 mod replay;
 
-use replay_answers::Tally;
+use std::io;
 
-// What the lines of a text came to.
-fn replayed(rt: &impl Print, text: &[u8]) -> Tally {
-    let mut tally = Tally::new();
-    let mut at = 0usize;
-    while at < text.len() {
-        let end = replay_answers::end(text, at, b'\n');
-        let outcome = replay::replay(&text[at..end]);
-        let next = tally.added(rt, outcome);
-        tally = next;
-        at = end + 1;
-    }
-    tally
-}
-
-fn main(rt: HostRuntime) {
-    let mut input = replay_answers::room();
-    let n = rig_streams::read_full(&mut rt.stdin(), &mut input);
-    let tally = replayed(&rt, &input[..n]);
-    tally.print_entry(&rt, 1, b"new");
-    tally.print_entry(&rt, 2, b"advance");
-    tally.print_entry(&rt, 3, b"concentrations");
-    tally.print_total(&rt);
+fn main(rt: HostRuntime) -> io::Result<()> {
+    replay_answers::replay_lines(&rt, |line| replay::replay(rt.alloc(), line))
 }

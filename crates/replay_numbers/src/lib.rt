@@ -1,76 +1,65 @@
 // The numbers of stored answers: lower-case hexadecimal, no leading zeros; and whether a double has the pattern of one.
 #![tactic(auto)]
 
-ghost use Rattle.std.specs.Prelude.{◌≡◌};
+ghost use Rattle.std.specs.Prelude.{◌≡◌, ℕ, ◌<◌, ◌↔◌, IfSome, IsTrue, length, slice_index, slice_index_or};
+ghost use Rattle.std.specs.Float.{nan};
 ghost use Rattle.replay_numbers.specs.Doubles.{same_bits};
-ghost use Rattle.replay_numbers.specs.Text.{digit_of, spelled as spelledOf, number_of};
+ghost use Rattle.replay_numbers.specs.Text.{digit_of, spelled as spelled_of, number_of};
 
-#[derive(Clone, Copy)]
-pub enum Parsed {
-    Value(u64),
-    Malformed,
-}
-
-// The value of a digit; 16 for any other byte.
-fn digit(byte: u8) -> u64
-    ensures { result ≡ digit_of byte }
+// The value of a digit.
+#[tactic(auto, unfolding(crate::specs::Text::digit_of))]
+fn digit(byte: u8) -> Option<u64>
+    ensures value { result ≡ digit_of byte }
+    ensures below { IfSome result (λ d. d < 16) }
 {
-    let b = byte as u64;
-    if b < 48 {
-        return 16;
+    match byte {
+        b'0'..=b'9' => Some(u64::from(byte - b'0')),
+        b'a'..=b'f' => Some(u64::from(byte - b'a') + 10),
+        _ => None,
     }
-    if b < 58 {
-        return b - 48;
-    }
-    if b < 97 {
-        return 16;
-    }
-    if b < 103 { b - 87 } else { 16 }
 }
 
 // Whether there is a first byte, which is no 0 in front of others.
-fn spelled(word: &[u8]) -> bool
-    ensures { result ≡ spelledOf word.now }
+#[tactic(auto, unfolding(crate::specs::Text::spelled))]
+fn spelled(word: &str) -> bool
+    ensures { result ≡ spelled_of word.now }
 {
-    let n = word.len();
-    if n == 0 {
-        return false;
-    }
-    if n == 1 {
-        return true;
-    }
-    word[0] != 48
+    !matches!(word.as_bytes(), [] | [b'0', _, ..])
 }
 
 // The number that a word spells, where it fits 64 bits.
-pub fn number(word: &[u8]) -> Parsed
+pub fn number(word: &str) -> Option<u64>
     ensures { result ≡ number_of word.now }
 {
     if !spelled(word) {
-        return Parsed::Malformed;
+        return None;
     }
     let mut value = 0u64;
-    let mut i = 0usize;
-    while i < word.len() {
-        let d = digit(word[i]);
-        if d >= 16 {
-            return Parsed::Malformed;
-        }
-        if value >= 0x1000_0000_0000_0000 {
-            return Parsed::Malformed;
-        }
-        value = value * 16 + d;
-        i += 1;
+    for byte in word.as_bytes() {
+        let digit = digit(*byte)?;
+        value = value.checked_mul(16)? + digit;
     }
-    Parsed::Value(value)
+    Some(value)
 }
 
 // Whether x has this pattern; all NaNs count as one.
 pub fn same(x: f64, bits: u64) -> bool
     ensures { result ≡ same_bits x bits }
 {
-    if x != x {
-        return binary64_bits::is_nan_bits(bits);
+    if x.is_nan() {
+        binary64_bits::is_nan_bits(bits)
+    } else {
+        x.to_bits() == bits
     }
-    f64::to_bits(x) == bits
+}
+
+// Whether each double has the pattern in its place.
+pub fn all_same(list: &[f64], patterns: &[u64]) -> bool
+    ensures { IsTrue result ↔ (length list.now ≡ length patterns.now) × ((k : ℕ) → k < length list.now → IsTrue (same_bits (slice_index_or list.now k nan) (slice_index patterns.now k))) }
+{
+    list.len() == patterns.len()
+        && list
+            .iter()
+            .zip(patterns)
+            .all(|(x, pattern)| same(*x, *pattern))
 }

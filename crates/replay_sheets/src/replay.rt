@@ -1,82 +1,90 @@
 // One line: a sheet's run or steady state, and the printout that it must give.
-ghost use Rattle.std.specs.Prelude.{◌≤◌, length};
-
 use printout::PrintReply;
-use refusal::{Refusal, Reply};
-use replay_answers::{CELL, Outcome, SHEET, TEXT, has_text, kept};
+use refusal::Refusal;
+use replay_answers::{Called, LineError, Sheet};
+use std::alloc::{AllocError, Global};
+use std::fmt;
 
-// Entries: `run_sheet`, and `steady_sheet` for a line that starts with an s.
-pub const RUN: u64 = 0;
+// The longest printout of a line.
+const TEXT: usize = 2048;
 
-pub const STEADY: u64 = 1;
+// What the lent cells hold before the call: no byte of a printout.
+const CELL: u8 = 200;
 
-// The printout of the first bytes, with the first cells lent.
-fn printed(entry: u64, sheet: &[u8], bytes: usize, out: &mut [u8], cells: usize) -> PrintReply
-    requires { (bytes ≤ length sheet.now) × (cells ≤ length out.old) }
-{
-    if entry == STEADY {
-        return rig_steady_sheet::steady_sheet(&sheet[..bytes], &mut out[..cells]);
-    }
-    rig_run_printout::run_sheet(&sheet[..bytes], &mut out[..cells])
+#[derive(Clone, Copy, PartialEq, Eq, PartialOrd, Ord)]
+pub enum Entry {
+    RunSheet,
+    SteadySheet,
 }
 
-// The number of a printout without room: 4 for an answer.
-fn without_room(number: u64) -> u64 {
-    if number == 0 {
-        return refusal::number(Reply::Refused(Refusal::ShortSlice));
+impl fmt::Display for Entry {
+    fn fmt<W: fmt::Write>(&self, f: &mut fmt::Formatter<W>) -> fmt::Result {
+        f.write_str(match self {
+            Entry::RunSheet => "run_sheet",
+            Entry::SteadySheet => "steady_sheet",
+        })
     }
-    number
 }
 
-// Calls the entry with one cell too few, which must leave all cells, then with as many as the text has.
-fn compared(entry: u64, sheet: &[u8; SHEET], bytes: usize, number: u64, text: &[u8]) -> Outcome
-    requires { bytes ≤ 65544 }
-{
-    let n = text.len();
-    if n == 0 {
-        return Outcome::Malformed;
+impl Entry {
+    fn printed(self, sheet: &[u8], out: &mut [u8]) -> PrintReply {
+        match self {
+            Entry::RunSheet => rig_run_printout::run_sheet(sheet, out),
+            Entry::SteadySheet => rig_steady_sheet::steady_sheet(sheet, out),
+        }
     }
-    if n > TEXT {
-        return Outcome::Malformed;
+}
+
+// Whether a call with one cell too few, `length`, refuses and leaves all cells: with 4 in place of an answer.
+fn is_refused(
+    alloc: Global,
+    entry: Entry,
+    sheet: &Sheet<'_>,
+    length: usize,
+) -> Result<bool, AllocError> {
+    let mut cells = vec![in alloc; CELL; length]?;
+    let printed = entry.printed(sheet.bytes.as_slice(), cells.as_mut_slice());
+    let number = match sheet.number {
+        0 => refusal::number(Err(Refusal::ShortSlice)),
+        number => number,
+    };
+    Ok(
+        refusal::number(printed.reply) == number
+            && printed.length == 0
+            && cells.iter().all(|cell| *cell == CELL),
+    )
+}
+
+// The byte that a byte of the line stands for: a slash is a line feed.
+fn written(byte: u8) -> u8 {
+    if byte == b'/' { b'\n' } else { byte }
+}
+
+// Calls the entry with one cell too few, then with as many as the text has.
+fn called(alloc: Global, entry: Entry, sheet: &Sheet<'_>) -> Result<Called<Entry>, LineError> {
+    let text = sheet.printout.as_bytes();
+    if text.is_empty() || text.len() > TEXT {
+        return Err(LineError::Malformed);
     }
-    let mut less = [CELL; TEXT];
-    let short = printed(entry, sheet, bytes, &mut less, n - 1);
-    let unwritten = short.reply;
-    let refused = (refusal::number(unwritten) == without_room(number))
-        & (short.length == 0)
-        & kept(&less, 0);
-    let mut out = [CELL; TEXT];
-    let printout = printed(entry, sheet, bytes, &mut out, n);
-    let told = printout.reply;
-    let received = refusal::number(told);
-    let same = (printout.length == n) & has_text(&out, text) & kept(&out, n);
-    Outcome::Called {
+    let refused = is_refused(alloc, entry, sheet, text.len() - 1)?;
+    let mut cells = vec![in alloc; CELL; text.len()]?;
+    let printed = entry.printed(sheet.bytes.as_slice(), cells.as_mut_slice());
+    let reply = refusal::number(printed.reply);
+    let is_text = cells
+        .iter()
+        .copied()
+        .eq(text.iter().map(|byte| written(*byte)));
+    Ok(Called {
         entry,
-        reply: received,
-        same: refused & same & (received == number),
-    }
+        reply,
+        same: refused && reply == sheet.number && printed.length == text.len() && is_text,
+    })
 }
 
-// With the line's parts.
-fn called(entry: u64, parts: &[u8]) -> Outcome {
-    let mut sheet = [0u8; SHEET];
-    let read = replay_answers::read(parts, &mut sheet);
-    if !read.fits {
-        return Outcome::Malformed;
+// A line that starts with an s is one for `steady_sheet`.
+pub fn replay(alloc: Global, line: &str) -> Result<Called<Entry>, LineError> {
+    match line.strip_prefix('s') {
+        Some(rest) => called(alloc, Entry::SteadySheet, &Sheet::read(alloc, rest)?),
+        None => called(alloc, Entry::RunSheet, &Sheet::read(alloc, line)?),
     }
-    let at = read.text;
-    compared(entry, &sheet, read.bytes, read.number, &parts[at..])
-}
-
-pub fn replay(line: &[u8]) -> Outcome {
-    if replay_answers::is_comment(line) {
-        return Outcome::Comment;
-    }
-    if line.len() == 0 {
-        return Outcome::Malformed;
-    }
-    if line[0] == b's' {
-        return called(STEADY, &line[1..]);
-    }
-    called(RUN, line)
 }

@@ -1,103 +1,161 @@
 // One line: a run of the library, and the answer that it must give.
-ghost use Rattle.std.specs.Prelude.{◌≤◌, length};
-ghost use Rattle.replay_simulation.specs.Places.{Held};
+ghost use Rattle.std.specs.Prelude.{◌≤◌, length, vec_len};
 
-use crate::compare::{Answer, CELLS, REAL, ROWS, SIDE};
-use crate::shape::{AMOUNTS, CLEARANCE, DEPOT, EXCHANGE, FIRST_EVENT, Shape, WINDOW};
-use crate::{compare, shape};
-use limits::EVENTS;
-use protocol::Event;
+use crate::cells::{Expected, Lent};
+use limits::EVENT_SIZE;
+use protocol::Window;
 use refusal::Refusal;
-use replay_answers::{Outcome, ROOM};
-use simulation_report::RunReply;
+use replay_answers::{Called, LineError, Parameters, Words, doubles, numbers};
+use replay_numbers::same;
+use simulation_report::{Report, RunReply};
+use std::alloc::{AllocError, Global};
+use std::fmt;
 
-fn answered(reply: RunReply) -> Answer {
-    let report = simulation_report::report_of(reply);
-    let began = match reply {
-        RunReply::Refused(_) => false,
-        RunReply::Stopped { .. } => true,
-        RunReply::Reached { .. } => true,
+// The most volumes, exchanges, amounts, events and samples of a line.
+const VOLUMES: usize = 3;
+
+const EXCHANGES: usize = 2;
+
+const AMOUNTS: usize = 4;
+
+const EVENTS: usize = 6;
+
+const SAMPLES: usize = 5;
+
+// The entry that the lines call.
+#[derive(Clone, Copy, PartialEq, Eq, PartialOrd, Ord)]
+pub struct Simulate;
+
+impl fmt::Display for Simulate {
+    fn fmt<W: fmt::Write>(&self, f: &mut fmt::Formatter<W>) -> fmt::Result {
+        f.write_str("simulate")
+    }
+}
+
+// The arguments of a run; an event is its words.
+#[derive(Drop)]
+struct Run<'a> {
+    parameters: Parameters,
+    amounts: Vec<f64>,
+    window: Window,
+    events: &'a [u64],
+    samples: Vec<f64>,
+    ghost events_within: { length events.now ≤ 36 },
+    ghost samples_within: { vec_len samples ≤ 5 },
+}
+
+impl<'a> Run<'a> {
+    fn read(alloc: Global, words: &mut Words<'a>) -> Result<Self, LineError> {
+        Ok(Run {
+            parameters: Parameters::read(alloc, words, VOLUMES, EXCHANGES)?,
+            amounts: doubles(alloc, words.list(AMOUNTS)?)?,
+            window: words.window()?,
+            events: words.items(EVENTS, EVENT_SIZE)?,
+            samples: doubles(alloc, words.items(SAMPLES, 1)?)?,
+        })
+    }
+
+    fn events(&self) -> usize
+        ensures { result ≤ 6 }
+    {
+        self.events.len() / EVENT_SIZE
+    }
+
+    // The rows that the slices must have room for.
+    fn reckoned(&self) -> usize {
+        4 * self.events() + self.samples.len() + 2
+    }
+
+    fn simulated(&self, lent: &mut Lent) -> RunReply {
+        if !events_layout::events_fit(self.events) {
+            return RunReply::Refused(Refusal::Layout);
+        }
+        let list = events_layout::events_of(self.events);
+        simulation::simulate(
+            self.parameters.made().unwrap_or(linear_pk::none()),
+            self.amounts.as_slice(),
+            self.window,
+            list.as_slice(),
+            self.samples.as_slice(),
+            lent.times.as_mut_slice(),
+            lent.sides.as_mut_slice(),
+            lent.values.as_mut_slice(),
+        )
+    }
+}
+
+// The answer that a line stores; a row is its words.
+#[derive(Clone, Copy)]
+struct Stored<'a> {
+    number: u64,
+    time: u64,
+    count: usize,
+    advances: u64,
+    rows: &'a [u64],
+}
+
+impl<'a> Stored<'a> {
+    // With at most so many rows, of so many words each.
+    fn read(words: &mut Words<'a>, most: usize, width: usize) -> Result<Self, LineError> {
+        let number = words.word()?;
+        let time = words.word()?;
+        let count = words.at_most(most)?;
+        let advances = words.word()?;
+        let rows = words.words(count.saturating_mul(width))?;
+        Ok(Stored {
+            number,
+            time,
+            count,
+            advances,
+            rows,
+        })
+    }
+
+    fn is_report(&self, report: Report) -> bool {
+        report.number == self.number
+            && same(report.time, self.time)
+            && report.rows == self.count
+            && report.advances == self.advances
+    }
+
+    // The rows of n amounts, and zeros for the reckoned rows that were not reached.
+    fn expected(&self, alloc: Global, n: usize, reckoned: usize) -> Result<Expected, AllocError>
+        requires { n ≤ 5 }
+    {
+        let mut expected = Expected::new(alloc);
+        for row in self.rows.chunks_exact(2 + n) {
+            if let [time, side, amounts @ ..] = row {
+                expected.push(*time, *side, amounts)?;
+            }
+        }
+        let zeros = vec![in alloc; 0; n]?;
+        for _ in self.count..reckoned {
+            expected.push(0, 0, zeros.as_slice())?;
+        }
+        Ok(expected)
+    }
+}
+
+pub fn replay(alloc: Global, line: &str) -> Result<Called<Simulate>, LineError> {
+    let numbers = numbers(alloc, line)?;
+    let mut words = Words::new(numbers.as_slice());
+    let run = Run::read(alloc, &mut words)?;
+    let n = run.parameters.state_count();
+    let stored = Stored::read(&mut words, run.reckoned(), 2 + n)?;
+    words.end()?;
+    let mut lent = Lent::new(alloc)?;
+    let reply = run.simulated(&mut lent);
+    // A run that a test ahead of it refused leaves every cell.
+    let expected = match reply {
+        RunReply::Refused(_) => Expected::new(alloc),
+        RunReply::Stopped { .. } | RunReply::Reached { .. } => {
+            stored.expected(alloc, n, run.reckoned())?
+        }
     };
-    Answer { report, began }
-}
-
-// The answer where the words of an event do not fit.
-fn unfit() -> Answer {
-    answered(RunReply::Refused(Refusal::Layout))
-}
-
-// Whether the words of the events, which end at a place, are events.
-fn events_fit(words: &[u64], end: usize) -> bool
-    requires { (23 ≤ end) × (end ≤ length words.now) }
-{
-    events_layout::events_fit(&words[FIRST_EVENT..end])
-}
-
-fn events_of(words: &[u64], end: usize) -> [Event; EVENTS]
-    requires { (23 ≤ end) × (end ≤ length words.now) }
-{
-    events_layout::events_of(&words[FIRST_EVENT..end])
-}
-
-// The answer to a line's run.
-fn run(
-    words: &[u64; ROOM],
-    shape: Shape,
-    times: &mut [f64],
-    sides: &mut [u8],
-    values: &mut [f64],
-) -> Answer
-    requires { Held shape }
-{
-    let at = shape::samples_at(shape.events);
-    if !events_fit(words, at) {
-        return unfit();
-    }
-    let made = replay_answers::made(words, CLEARANCE, EXCHANGE, DEPOT);
-    let kernel = made.kernel;
-    let amounts = replay_answers::doubles(words, AMOUNTS);
-    let a = replay_answers::count(words, AMOUNTS, &amounts);
-    let samples = replay_answers::doubles(words, at);
-    let s = replay_answers::count(words, at, &samples);
-    let events = events_of(words, at);
-    answered(simulation::simulate(
-        kernel,
-        &amounts[..a],
-        replay_answers::window(words, WINDOW),
-        events,
-        shape.events,
-        &samples[..s],
-        times,
-        sides,
-        values,
-    ))
-}
-
-// Makes the run of a line's numbers and compares.
-fn compared(words: &[u64; ROOM], count: usize) -> Outcome {
-    let shape = shape::shape_of(words);
-    if !shape::has_shape(words, count, shape) {
-        return Outcome::Malformed;
-    }
-    let real = binary64_bits::of_bits(REAL);
-    let mut times = [real; ROWS];
-    let mut sides = [SIDE; ROWS];
-    let mut values = [real; CELLS];
-    let answer = run(words, shape, &mut times, &mut sides, &mut values);
-    let same = compare::agrees(words, shape, answer, &times, &sides, &values);
-    let report = answer.report;
-    Outcome::Called {
-        entry: 0,
+    let report = simulation_report::report_of(reply);
+    Ok(Called {
+        entry: Simulate,
         reply: report.number,
-        same,
-    }
-}
-
-pub fn replay(line: &[u8]) -> Outcome {
-    if replay_answers::is_comment(line) {
-        return Outcome::Comment;
-    }
-    let mut words = [0u64; ROOM];
-    let count = replay_answers::numbers(line, &mut words);
-    compared(&words, count)
+        same: stored.is_report(report) && expected.is_in(&lent)?,
+    })
 }

@@ -1,11 +1,11 @@
 -- A closed cycle that is solved: its list folds, and the run of that list from the amounts reaches the end.
 use mathlib.Core.Path.{◌≡◌, refl, sym, ap, ◌∙◌, subst}
 use mathlib.Core.Bool.{Bool, true, false}
-use mathlib.Core.List.{List, [], ◌∷◌, ◌++◌, map}
+use mathlib.Core.List.{List, [], ◌∷◌, ◌++◌}
 use mathlib.Core.Option.{Option, some, none}
 use Prim.Native.Nat.{ℕ, ◌+◌, ◌≤◌}
 use native.Mathlib.Omega.{arith}
-use borrow.Author.Tests.{le-leb, eq-eqb}
+use borrow.Author.Tests.{eq-eqb}
 use lib.Dec.{T}
 use lib.ListN.{length, take}
 use lib.Ieee.{Float}
@@ -13,10 +13,10 @@ use Rattle.limits.specs.Limits.{most_cycle_events, most_events, most_samples}
 use Rattle.binary64.specs.Doubles.{nonnegative}
 use Rattle.binary64.specs.Lists.{all, amounts_pass}
 use Rattle.refusal.specs.Result.{Result, refused, done}
-use Rattle.refusal.specs.Numbers.{result_of}
-use Rattle.refusal.specs.declared.Reply.{Reply}
-use Rattle.refusal.specs.declared.Reply.TheVariants.{Done, Refused}
-use Rattle.matrix.specs.Matrix.{tabulate}
+use Rattle.refusal.specs.Numbers.{outcome_with}
+use Rattle.refusal.specs.declared.Refusal.{Refusal}
+use Rattle.std.specs.Prelude.{Ok, Err, Result as Answer}
+use Rattle.std.specs.Result.{is_ok}
 use Rattle.matrix.proofs.Filled.{tabulate-length}
 use Rattle.linear_pk.specs.LinearPk.{sound, state_count}
 use Rattle.linear_pk.specs.declared.kernel.LinearPk.{LinearPk}
@@ -29,8 +29,8 @@ use Rattle.protocol.proofs.EntryLaws.{width}
 use Rattle.protocol.proofs.ListLaws.{both}
 use Rattle.simulation.specs.KernelRun.{propagator_of, refusal_of}
 use Rattle.simulation.proofs.KernelRuns.{kernel_laws, kernel-run}
-use Rattle.events_layout.specs.Layout.{event_count, event_of, events_of, event_or_none}
-use Rattle.events_layout.proofs.Laws.{front_events}
+use Rattle.events_layout.specs.Layout.{event_count, event_of, events_of}
+use Rattle.events_layout.proofs.Laws.{all_held}
 use Rattle.sheet_kernel.specs.Values.{double_of, doubles_from, sheet_window}
 use Rattle.cycle.specs.declared.SteadyStateTolerance.{SteadyStateTolerance}
 use Rattle.cycle.specs.Fold.{fold}
@@ -39,9 +39,8 @@ use Rattle.cycle.specs.ClosedCycle.{TimesFit, Yields, Accepts, CandidateAnswer, 
 use Rattle.cycle.proofs.Theorems.{closed-cycle}
 use Rattle.cycle.proofs.InnerRuns.{ready_inner}
 use Rattle.cycle.proofs.Results.{no_answer, same_answer}
-use Rattle.fold.specs.Entry.{fold_entry, event_in, Answer, answer_of, fold_answer}
-use Rattle.fold_list.specs.declared.FoldedCycle.{FoldedCycle}
-use Rattle.fold.proofs.Listing.{entry_folds}
+use Rattle.fold.specs.Entry.{fold_entry}
+use Rattle.fold.proofs.Tests.{entry_folds}
 use Rattle.rig_run_sheet.specs.SheetRun.{doubles_of}
 use Rattle.rig_run_sheet.proofs.Words.{times-made, start-made, end-made}
 use Rattle.sheet_kernel.specs.CycleTolerance.{tolerance_of}
@@ -145,40 +144,35 @@ module _ (k : LinearPk) (w ss es : List ℕ) (h : sound k ≡ done k) (few : eve
       last-passes p (x ∷ rs) r t = last-passes p rs r (both (p x) (all p (rs ++ (r ∷ []))) t).1
 
   -- ---- what the code folds
-  module _ {readings : List Float} {list : List Event} {span : Window} {count samples : ℕ} (r : readings ≡ doubles_from ss 0 samples)
-      (v : list ≡ tabulate most_events (event_or_none es)) (p : span ≡ sheet_window w)
-      (c : count ≡ event_count es) (m : samples ≡ length ss) (l : samples ≤ most_samples) (cycle : FoldedCycle)
-      (t : fold_answer cycle ≡ answer_of (fold_entry k span readings list count)) where
-    entry_is : fold_entry k span readings list count ≡ done yields.folded
+  module _ {readings : List Float} {list : List Event} {span : Window} {samples : ℕ} (r : readings ≡ doubles_from ss 0 samples)
+      (v : list ≡ take most_events (events_of es)) (p : span ≡ sheet_window w) (m : samples ≡ length ss) (l : samples ≤ most_samples) where
+    pub entry_is : fold_entry k span readings list ≡ done yields.folded
+    unfolding events_of
     entry_is =
         let within : length readings ≤ most_samples = omega (arith, ap length r ∙ tabulate-length (λ (i : ℕ). double_of ss (0 + i)) samples) in
-        let places : event_count es ≤ most_events = omega arith in
-        entry_folds k span readings list count (le-leb count most_cycle_events (omega arith)) (le-leb (length readings) most_samples within)
-        (sym h) ∙ rw (r, v, p, m, c, front_events most_events es places) folds
+        let whole : list ≡ events_of es = v ∙ all_held es few in
+        let size : length list ≤ most_cycle_events = omega (arith, ap length whole ∙ tabulate-length (event_of es) (event_count es)) in
+        sym (entry_folds k span readings list size within (sym h) refl) ∙ rw (r, whole, p, m) folds
 
-    same-list : (reply : Reply) {xs ys : List Event} → result_of reply xs ≡ done ys → xs ≡ ys
-    same-list Done e = cc
-    same-list (Refused x) e = absurd (let z : ◌≡◌ {A = ℕ} 0 1 = cc in omega arith)
+    -- what it runs
+    module _ {pieces : List Event} (x : done pieces ≡ fold_entry k span readings list) where
+      run-list : pieces ≡ yields.folded
+      run-list = same-list (x ∙ entry_is)
+        where
+          same-list : {xs ys : List Event} → done xs ≡ done ys → xs ≡ ys
+          same-list e = cc
 
-    pub front : take cycle.count (map event_in cycle.events) ≡ yields.folded
-    unfolding answer_of
-    front = same-list cycle.reply (ap (λ (a : Answer). a.result) (t ∙ ap answer_of entry_is))
-
-    pub few-pieces : cycle.count ≤ most_events
-    unfolding answer_of
-    few-pieces = omega (arith, ap (λ (a : Answer). a.count) (t ∙ ap answer_of entry_is), goes.few)
-
-    -- what the code runs
-    module _ {pieces : List Event} (x : pieces ≡ map event_in cycle.events) where
-      run-list : take cycle.count pieces ≡ yields.folded
-      run-list = ap (take cycle.count) x ∙ front
-
-      pub run_goes : ReachesEnd k span (take cycle.count pieces) s.amounts
+      pub run_goes : ReachesEnd k span pieces s.amounts
       run_goes = rw (p, run-list) goes
 
-      pub run_ends : {e : List Float} → last_of (propagator_of k) n span (take cycle.count pieces) s.amounts ≡ got e
+      pub run_ends : {e : List Float} → last_of (propagator_of k) n span pieces s.amounts ≡ got e
           → next_with k w ss es ≡ got (record { tolerance = tolerance_of w; starts = s.amounts; ends = e; residuals = s.residuals })
       run_ends y = next_is (rw (p, run-list) at y)
+
+-- ---- a result that stands for a value is one
+pub holds : {A B : Type 0} (f : A → B) {b : B} (x : Answer A Refusal) → outcome_with f x ≡ done b → is_ok x ≡ true
+holds f (Ok a) e = refl
+holds f (Err r) e = absurd (let z : ◌≡◌ {A = ℕ} 0 1 = cc in omega arith)
 
 -- the slices that solve it have a cell for each state
 pub solves_sized : (k : LinearPk) (w ss es : List ℕ) → sound k ≡ done k → {amounts residual : List Float}

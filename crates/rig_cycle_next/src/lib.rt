@@ -15,13 +15,12 @@ ghost use Rattle.rig_cycle_next.specs.Solves.{Solves};
 ghost use Rattle.printout.specs.Replies.{Prints};
 ghost use Rattle.rig_cycle_next.specs.NextPrintout.{cycle_printout};
 
-use fold_list::events_in;
-use limits::EVENT_BYTES;
 use linear_pk::LinearPk;
 use periodic_next::simulate_cycle;
 use printout::PrintReply;
 use printout_cycle::print_cycle;
-use refusal::Reply;
+use refusal::Refusal;
+use sheet::Part;
 use sheet_kernel::tolerance_of;
 
 // The cycle of a kernel and the other bodies, folded and run from the amounts that solve it: the place in the values from which those at its end stand.
@@ -51,17 +50,13 @@ pub fn run_next(
         })) }
 {
     sheet_values::doubles(samples, 0, readings);
-    let list = sheet_events::events_of(events);
-    let count = events.len() / EVENT_BYTES;
+    let list = events_layout::events_of(Part(events));
     let span = sheet_values::window_of(window);
-    let folded = fold::normalize_periodic_cycle(kernel, span, list, count, readings);
-    let places = folded.events;
-    let pieces = events_in(places);
+    let folded = fold::normalize_periodic_cycle(kernel, span, list.as_slice(), readings).unwrap();
     simulate_cycle(
         kernel,
         span,
-        pieces,
-        folded.count,
+        folded.as_slice(),
         amounts,
         times,
         sides,
@@ -96,5 +91,5 @@ pub fn next_solved(
     let end = from + n;
     let tolerance = tolerance_of(window);
     let length = print_cycle(tolerance, n, amounts, &values[from..end], residual, out);
-    printout::reply_of(Reply::Done, length)
+    printout::reply_of(Ok(()), length)
 }

@@ -6,7 +6,6 @@ ghost use Rattle.limits.specs.Limits.{cycle_rows, cycle_values};
 ghost use Rattle.refusal.specs.Numbers.{reply_number};
 ghost use Rattle.refusal.specs.Result.{done};
 ghost use Rattle.linear_pk.specs.LinearPk.{sound, state_count};
-ghost use Rattle.periodic_acceptance.specs.Entry.{steady_reply};
 ghost use Rattle.sheet.specs.Sheet.{words_of};
 ghost use Rattle.sheet.specs.Readable.{Readable};
 ghost use Rattle.printout.specs.Replies.{Prints};
@@ -18,39 +17,15 @@ ghost use Rattle.rig_cycle_sheet.specs.CycleSheet.{cycle_printout_of_bytes};
 
 use limits::STATES;
 use linear_pk::LinearPk;
-use periodic_acceptance::SteadyReply;
 use periodic_inputs::{side_cells, time_cells, value_cells};
 use printout::{PrintReply, print_refusal};
 use printout_steady::print_steady;
-use refusal::Reply;
 use rig_cycle_next::next_solved;
 use rig_run_sheet::sample_cells;
 use rig_steady_cycle::solve_bodies;
 
 // The most bytes of a printout: a line of the most states, and the longer verdict.
 pub const CYCLE_BYTES: usize = 68 * STATES + 11;
-
-// Whether a cycle is solved, or its refusal, and the time of that.
-#[derive(Clone, Copy)]
-struct Refused {
-    reply: Reply,
-    time: f64,
-}
-
-fn refusal_of(reply: SteadyReply) -> Refused
-    ensures { (reply_number result.reply ≡ (steady_reply reply).number) × (result.time ≡ (steady_reply reply).time) }
-{
-    match reply {
-        SteadyReply::Refused { refusal, time } => Refused {
-            reply: Reply::Refused(refusal),
-            time,
-        },
-        SteadyReply::Solved { .. } => Refused {
-            reply: Reply::Done,
-            time: 0.0,
-        },
-    }
-}
 
 // Solves the cycle of a kernel and the other bodies in lent cells, runs one cycle more, and prints that, or the refusal of the closed one.
 pub fn next_cells(
@@ -72,18 +47,17 @@ pub fn next_cells(
     ensures { Prints (cycle_printout (next_with kernel (words_of window.now) (words_of samples.now)
         (words_of events.now))) out.old result out.new }
 {
-    let refused = refusal_of(solve_bodies(
-        kernel, window, samples, events, readings, amounts, residual,
-    ));
-    let reply = refused.reply;
-    let number = refusal::number(reply);
-    if number == 0 {
-        return next_solved(
+    let solved = solve_bodies(kernel, window, samples, events, readings, amounts, residual);
+    match solved {
+        Err(stop) => {
+            let number = refusal::number(Err(stop.refusal));
+            let length = print_steady(number, stop.time, 0, 0.0, amounts, residual, out);
+            printout::reply_of(Err(stop.refusal), length)
+        }
+        Ok(_) => next_solved(
             kernel, window, samples, events, readings, amounts, residual, times, sides, values, out,
-        );
+        ),
     }
-    let length = print_steady(number, refused.time, 0, 0.0, amounts, residual, out);
-    printout::reply_of(reply, length)
 }
 
 // The same in cells of its own.
@@ -127,15 +101,12 @@ pub fn cycle_sheet(bytes: &[u8], out: &mut [u8]) -> PrintReply
     ensures length_value { result.length ≡ printed_length (cycle_printout_of_bytes bytes.now).text out.old }
     ensures out_after { out.new ≡ printed (cycle_printout_of_bytes bytes.now).text out.old }
 {
-    let read = sheet_kernel::read_kernel(bytes);
-    let reply = read.reply;
-    match reply {
-        Reply::Refused(refusal) => print_refusal(refusal, out),
-        Reply::Done => {
-            let kernel = read.kernel;
+    match sheet_kernel::read_kernel(bytes) {
+        Err(refusal) => print_refusal(refusal, out),
+        Ok(read) => {
             let places = read.places;
             next_bodies(
-                kernel,
+                read.kernel,
                 sheet::body(bytes, places.window, places.amounts),
                 sheet::body(bytes, places.samples, places.events),
                 sheet::body(bytes, places.events, places.end),

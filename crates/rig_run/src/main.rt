@@ -25,6 +25,7 @@ fn output() -> [u8; RUN_BYTES]
 }
 
 // Runs the sheet and writes its printout; whether all of it was written.
+// Two lines over its own entry: a trait for the printers of the three programs would be longer than they are.
 fn run<W: Write>(sheet: &[u8], text: &mut [u8], out: &mut W) -> bool
     ensures { result ≡ true → length text.old ≡ most_bytes →
         Appends (W.contents out.old) (W.contents out.new) (printout_of_bytes sheet.now).text }

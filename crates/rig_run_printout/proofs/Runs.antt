@@ -1,27 +1,23 @@
 -- The run of a sheet: its rows lie within the reckoned ones, no refusal has the number 0, and the printout over the slices is that of the outcome.
 use mathlib.Core.Path.{◌≡◌, refl, sym, ap, ◌∙◌, subst}
-use mathlib.Core.Bool.{Bool, true, false, ◌&&◌}
-use mathlib.Core.List.{List, [], ◌∷◌, ◌++◌}
+use mathlib.Core.List.{List, [], ◌++◌}
 use mathlib.Core.Option.{Option, some, none}
 use Prim.Native.Nat.{ℕ, ◌+◌, ◌*◌, ◌≤◌, zero-le}
 use native.Mathlib.Nat.{zero-mul}
 use native.Mathlib.Omega.{arith}
-use lib.Dec.{T, leb}
+use lib.Dec.{T}
 use lib.ListN.{length, length-append}
 use lib.Ieee.{Float, binary64, fits}
 use lib.Ieee.Bits.{of_bits-fits}
 use Rattle.binary64.specs.Doubles.{plus_zero}
 use Rattle.binary64.specs.Lists.{all, flat_map, amounts_pass}
 use Rattle.matrix.specs.Matrix.{tabulate}
-use Rattle.refusal.specs.Result.{Result, refused, done, and_then, unless}
-use Rattle.linear_pk.specs.LinearPk.{sound, state_count, volumes_pass, matrix_finite}
+use Rattle.refusal.specs.Result.{Result, refused, done}
+use Rattle.linear_pk.specs.LinearPk.{sound, state_count}
 use Rattle.linear_pk.specs.declared.kernel.LinearPk.{LinearPk}
-use Rattle.protocol.specs.declared.Event.{Event}
-use Rattle.protocol.specs.declared.Window.{Window}
-use Rattle.protocol.specs.Events.{time}
-use Rattle.protocol.specs.Prepare.{window_passes, within, events_pass, reckoned, prepare}
+use Rattle.protocol.specs.Prepare.{prepare}
 use Rattle.protocol.specs.Execute.{Pre, Row, State, Outcome, go, stop, run_of}
-use Rattle.protocol.specs.Entry.{Room, room_for, first_refusal, simulate, RunReport, report_of, times_at_exit, sides_at_exit, values_at_exit}
+use Rattle.protocol.specs.Entry.{first_refusal, simulate, RunReport, report_of, times_at_exit, sides_at_exit, values_at_exit}
 use Rattle.protocol.specs.PlainRun.{Prepared, PlainRun, rows_left}
 use Rattle.protocol.proofs.Conditions.{meets-above}
 use Rattle.protocol.proofs.EntryLaws.{Passes, n_each, ahead_none, simulate_runs, simulate-refuses}

@@ -3,17 +3,14 @@ use mathlib.Core.Path.{◌≡◌, refl, sym, ap}
 use mathlib.Core.List.{List}
 use Prim.Native.Nat.{ℕ}
 use Rattle.refusal.specs.Result.{Result, refused, done, and_then}
-use Rattle.refusal.specs.Numbers.{refusal_number}
-use Rattle.refusal.specs.declared.Refusal.{Refusal}
-use Rattle.refusal.specs.declared.Reply.TheVariants.{Done, Refused}
 use Rattle.linear_pk.specs.declared.kernel.LinearPk.{LinearPk}
 use Rattle.events_layout.specs.Layout.{events_of}
 use Rattle.sheet.specs.Sheet.{words_of, Sheet}
 use Rattle.sheet.specs.Reader.{Between}
 use Rattle.sheet_kernel.specs.Values.{model_of}
-use Rattle.sheet_kernel.specs.Read.{Reads}
+use Rattle.sheet_kernel.specs.Read.{read_kernel}
 use Rattle.sheet_kernel.specs.declared.SheetKernel.{SheetKernel}
-use Rattle.sheet_kernel.proofs.Kernels.{words_are, amounts_are, entry-refuses, entry_runs}
+use Rattle.sheet_kernel.proofs.Kernels.{KernelRead, words_are, amounts_are, entry-refuses, entry_runs}
 use Rattle.printout.specs.Printouts.{Printout}
 use Rattle.printout.specs.Replies.{refusal}
 use Rattle.sheet_events.specs.OrderedDoses.{ordered}
@@ -44,15 +41,15 @@ not_read : (c : ℕ) → run_printout_of (refused c) ≡ refusal c
 unfolding run_printout_of
 not_read c = refl
 
-module _ {bs : List ℕ} {r : SheetKernel} (read : Reads bs r) where
-  pub bytes_refused : {x : Refusal} → r.reply ≡ Refused x → refusal (refusal_number x) ≡ printout_of_bytes bs
-  bytes_refused e = sym (entry-refuses run_printout_of refusal of_kernel not_read (λ s c e. sheet-refused s e) (λ s k e. sheet_runs s e) read e)
+pub bytes_refused : (bs : List ℕ) {c : ℕ} → refused c ≡ read_kernel bs → refusal c ≡ printout_of_bytes bs
+bytes_refused bs e = sym (entry-refuses run_printout_of refusal of_kernel not_read (λ s c e. sheet-refused s e) (λ s k e. sheet_runs s e) bs e)
 
-  pub bytes_run : r.reply ≡ Done → {window amounts samples events : List ℕ} → Between bs r.places.window r.places.amounts window
-      → Between bs r.places.amounts r.places.samples amounts → Between bs r.places.samples r.places.events samples
-      → Between bs r.places.events r.places.end events
-      → of_words r.kernel (words_of window) (words_of amounts) (words_of samples) (words_of events) ≡ printout_of_bytes bs
-  bytes_run told w a s v =
-      let e = words_are read told w s v in
-      rw (e.0, amounts_are read told a, e.1, e.2)
-      (sym (entry_runs run_printout_of refusal of_kernel not_read (λ s c e. sheet-refused s e) (λ s k e. sheet_runs s e) read told))
+pub bytes_run : {bs : List ℕ} {r : SheetKernel} → KernelRead bs r
+    → {window amounts samples events : List ℕ} → Between bs r.places.window r.places.amounts window
+    → Between bs r.places.amounts r.places.samples amounts → Between bs r.places.samples r.places.events samples
+    → Between bs r.places.events r.places.end events
+    → of_words r.kernel (words_of window) (words_of amounts) (words_of samples) (words_of events) ≡ printout_of_bytes bs
+bytes_run read w a s v =
+    let e = words_are read w s v in
+    rw (e.0, amounts_are read a, e.1, e.2)
+    (sym (entry_runs run_printout_of refusal of_kernel not_read (λ s c e. sheet-refused s e) (λ s k e. sheet_runs s e) read))

@@ -20,7 +20,7 @@ ghost use Rattle.rig_run_printout.specs.Rig.{printout_of_bytes};
 use limits::{EVENT_BYTES, READ_AMOUNTS, SHEET_ROWS, STATES};
 use linear_pk::LinearPk;
 use printout::{PrintReply, print_refusal, reply_of};
-use refusal::Reply;
+use refusal::Refusal;
 use rig_run_sheet::{known, sample_cells, side_cells, simulate_bodies, time_cells, value_cells};
 use sheet_events::ordered;
 use simulation_report::RunReply;
@@ -29,13 +29,13 @@ use simulation_report::RunReply;
 pub const RUN_BYTES: usize = 34 + SHEET_ROWS * (22 + 17 * STATES);
 
 // Whether a run reached its end, or its refusal.
-fn answer_of(run: RunReply) -> Reply
+fn answer_of(run: RunReply) -> Result<(), Refusal>
     ensures { reply_number result ≡ (run_reply run).number }
 {
     match run {
-        RunReply::Refused(refusal) => Reply::Refused(refusal),
-        RunReply::Stopped { refusal, .. } => Reply::Refused(refusal),
-        RunReply::Reached { .. } => Reply::Done,
+        RunReply::Refused(refusal) => Err(refusal),
+        RunReply::Stopped { refusal, .. } => Err(refusal),
+        RunReply::Reached { .. } => Ok(()),
     }
 }
 
@@ -127,15 +127,12 @@ pub fn run_sheet(bytes: &[u8], out: &mut [u8]) -> PrintReply
     ensures length_value { result.length ≡ printed_length (printout_of_bytes bytes.now).text out.old }
     ensures out_after { out.new ≡ printed (printout_of_bytes bytes.now).text out.old }
 {
-    let read = sheet_kernel::read_kernel(bytes);
-    let reply = read.reply;
-    match reply {
-        Reply::Refused(refusal) => print_refusal(refusal, out),
-        Reply::Done => {
-            let kernel = read.kernel;
+    match sheet_kernel::read_kernel(bytes) {
+        Err(refusal) => print_refusal(refusal, out),
+        Ok(read) => {
             let places = read.places;
             run_bodies(
-                kernel,
+                read.kernel,
                 sheet::body(bytes, places.window, places.amounts),
                 sheet::body(bytes, places.amounts, places.samples),
                 sheet::body(bytes, places.samples, places.events),

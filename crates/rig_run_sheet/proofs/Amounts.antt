@@ -6,7 +6,7 @@ use mathlib.Core.Option.{Option, some, none}
 use Prim.Native.Nat.{ℕ, ◌+◌, ◌*◌, ◌≤◌}
 use native.Mathlib.Nat.{le_trans, mul-le-mul_right}
 use native.Mathlib.Omega.{arith}
-use borrow.Author.Tests.{leb-true, leb-false, le-leb, ne_eqb}
+use borrow.Author.Tests.{leb-true, leb-false, ne_eqb}
 use lib.Dec.{eqb, leb, ltb}
 use lib.ListN.{length, take}
 use lib.Ieee.{Float}
@@ -30,8 +30,8 @@ use Rattle.preparation.specs.Preparation.{own_number}
 use Rattle.simulation.specs.KernelRun.{propagator_of}
 use Rattle.simulation.specs.Entries.{room, simulate_entry, run_reply}
 use Rattle.simulation_report.specs.declared.RunReply.{RunReply}
-use Rattle.events_layout.specs.Layout.{event_count, events_of, event_or_none}
-use Rattle.events_layout.proofs.Laws.{front_events}
+use Rattle.events_layout.specs.Layout.{event_count, events_of}
+use Rattle.events_layout.proofs.Laws.{all_held}
 use Rattle.sheet_kernel.specs.Values.{double_of, doubles_from, sheet_window}
 use Rattle.rig_run_sheet.specs.SheetRun.{doubles_of, room_of, run_with, reckoned_of}
 
@@ -72,40 +72,40 @@ module _ (advance : Propagator) (own : Option ℕ) (n : ℕ) (w : Window) (ss : 
 
 module _ (k : LinearPk) (w a ss es : List ℕ) (few : state_count k ≤ states) where
   -- what the entry is given, and what 01's run is of
-  pub entry-run : (known count samples times sides values : ℕ) → count ≡ event_count es → count ≤ most_cycle_events
+  pub entry-run : (known samples times sides values : ℕ)
       → known ≡ cond (leb (length a) read_amounts) (length a) read_amounts → samples ≡ length ss
       → times ≡ reckoned_of ss es → sides ≡ reckoned_of ss es → values ≡ reckoned_of ss es * state_count k
-      → simulate_entry k (doubles_from a 0 known) (sheet_window w) (tabulate most_events (event_or_none es)) count (doubles_from ss 0 samples)
+      → simulate_entry k (doubles_from a 0 known) (sheet_window w) (events_of es) (doubles_from ss 0 samples)
       (room times sides values) ≡ run_with k w a ss es
   unfolding simulate_entry run_with
-  entry-run known count samples times sides values c l q s t d v =
+  entry-run known samples times sides values q s t d v =
       rw (q, s, t, d, v)
-      (rw (le-leb count most_events (omega arith), c, front_events most_events es (omega arith))
       (in_front (propagator_of k) (own_number (sound k)) (state_count k) (sheet_window w) (doubles_of ss) (events_of es)
-      (room_of (reckoned_of ss es) (state_count k)) (λ (j : ℕ). double_of a (0 + j)) (length a) few))
+      (room_of (reckoned_of ss es) (state_count k)) (λ (j : ℕ). double_of a (0 + j)) (length a) few)
 
   -- the entry's answers are the run's
   pub entry_answers : (times : List Float) (sides : List ℕ) (values : List Float) (reply : RunReply) {initial readings : List Float}
-      {span : Window} {list : List Event} {count : ℕ} {times' values' : List Float} {sides' : List ℕ} {known samples : ℕ}
-      → initial ≡ doubles_from a 0 known → readings ≡ doubles_from ss 0 samples → list ≡ tabulate most_events (event_or_none es) → span ≡ sheet_window w
-      → count ≡ event_count es → count ≤ most_cycle_events → known ≡ cond (leb (length a) read_amounts) (length a) read_amounts → samples ≡ length ss
+      {span : Window} {list : List Event} {times' values' : List Float} {sides' : List ℕ} {known samples : ℕ}
+      → initial ≡ doubles_from a 0 known → readings ≡ doubles_from ss 0 samples → list ≡ take most_events (events_of es) → span ≡ sheet_window w
+      → event_count es ≤ most_cycle_events → known ≡ cond (leb (length a) read_amounts) (length a) read_amounts → samples ≡ length ss
       → length times ≡ reckoned_of ss es → length sides ≡ reckoned_of ss es → length values ≡ reckoned_of ss es * state_count k
-      → run_reply reply ≡ report_of (simulate_entry k initial span list count readings (room (length times) (length sides) (length values)))
-      → times' ≡ times_at_exit (reckoned readings (take count list)) (simulate_entry k initial span list count readings
+      → run_reply reply ≡ report_of (simulate_entry k initial span list readings (room (length times) (length sides) (length values)))
+      → times' ≡ times_at_exit (reckoned readings list) (simulate_entry k initial span list readings
       (room (length times) (length sides) (length values))) times
-      → sides' ≡ sides_at_exit (reckoned readings (take count list)) (simulate_entry k initial span list count readings
+      → sides' ≡ sides_at_exit (reckoned readings list) (simulate_entry k initial span list readings
       (room (length times) (length sides) (length values))) sides
-      → values' ≡ values_at_exit (reckoned readings (take count list)) (state_count k) (simulate_entry k initial span list count readings
+      → values' ≡ values_at_exit (reckoned readings list) (state_count k) (simulate_entry k initial span list readings
       (room (length times) (length sides) (length values))) values
       → (run_reply reply ≡ report_of (run_with k w a ss es)) × ((times' ≡ times_at_exit (reckoned_of ss es) (run_with k w a ss es) times)
       × ((sides' ≡ sides_at_exit (reckoned_of ss es) (run_with k w a ss es) sides)
       × (values' ≡ values_at_exit (reckoned_of ss es) (state_count k) (run_with k w a ss es) values)))
-  entry_answers times sides values reply {initial} {readings} {span} {list} {count} {times'} {values'} {sides'} {known}
-      {samples} i r v s c l q m t d u x0 x1 x2 x3 =
-      let same : simulate_entry k initial span list count readings (room (length times) (length sides) (length values))
-      ≡ run_with k w a ss es = rw (i, r, v, s) (entry-run known count samples (length times) (length sides)
-      (length values) c l q m t d u) in
-      let rows : reckoned readings (take count list) ≡ reckoned_of ss es = rw (r, v, m, c, front_events most_events es (omega arith)) in (
+  entry_answers times sides values reply {initial} {readings} {span} {list} {times'} {values'} {sides'} {known}
+      {samples} i r v s l q m t d u x0 x1 x2 x3 =
+      let whole : list ≡ events_of es = v ∙ all_held es l in
+      let same : simulate_entry k initial span list readings (room (length times) (length sides) (length values))
+      ≡ run_with k w a ss es = rw (i, r, whole, s) (entry-run known samples (length times) (length sides)
+      (length values) q m t d u) in
+      let rows : reckoned readings list ≡ reckoned_of ss es = rw (r, whole, m) in (
         x0 ∙ ap report_of same,
         (
           x1 ∙ ap₂ (λ (j : ℕ) (o : Result Outcome). times_at_exit j o times) rows same,

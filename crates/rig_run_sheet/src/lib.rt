@@ -9,8 +9,9 @@ ghost use Rattle.simulation_report.specs.Replies.{run_reply};
 ghost use Rattle.sheet.specs.Sheet.{words_of};
 ghost use Rattle.rig_run_sheet.specs.SheetRun.{run_with, reckoned_of};
 
-use limits::{EVENT_BYTES, READ_AMOUNTS, SAMPLES, SHEET_ROWS, SHEET_VALUES};
+use limits::{READ_AMOUNTS, SAMPLES, SHEET_ROWS, SHEET_VALUES};
 use linear_pk::LinearPk;
+use sheet::Part;
 use simulation_report::RunReply;
 
 // Cells for the most samples, the most rows, and the amounts of those rows. What they hold is of no matter.
@@ -42,11 +43,7 @@ pub fn value_cells() -> [f64; SHEET_VALUES]
 pub fn known(given: usize) -> usize
     ensures { result ≡ cond (leb given read_amounts) given read_amounts }
 {
-    if given <= READ_AMOUNTS {
-        given
-    } else {
-        READ_AMOUNTS
-    }
+    given.min(READ_AMOUNTS)
 }
 
 // The run of a kernel and the other bodies, into slices of the reckoned rows.
@@ -82,10 +79,16 @@ pub fn simulate_bodies(
 {
     sheet_values::doubles(amounts, 0, initial);
     sheet_values::doubles(samples, 0, readings);
-    let list = sheet_events::events_of(events);
-    let count = events.len() / EVENT_BYTES;
+    let list = events_layout::events_of(Part(events));
     let span = sheet_values::window_of(window);
     simulation::simulate(
-        kernel, initial, span, list, count, readings, times, sides, values,
+        kernel,
+        initial,
+        span,
+        list.as_slice(),
+        readings,
+        times,
+        sides,
+        values,
     )
 }

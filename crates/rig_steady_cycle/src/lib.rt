@@ -12,12 +12,13 @@ ghost use Rattle.periodic_acceptance.specs.Replies.{SteadyAnswer};
 ghost use Rattle.printout.specs.Replies.{Prints};
 ghost use Rattle.printout_steady.specs.SteadyReplies.{steady_printout};
 
-use limits::{EVENT_BYTES, STATES};
+use limits::STATES;
 use linear_pk::LinearPk;
-use periodic_acceptance::SteadyReply;
+use periodic_acceptance::Stop;
 use printout::PrintReply;
 use printout_steady::print_reply;
 use rig_run_sheet::sample_cells;
+use sheet::Part;
 use sheet_kernel::tolerance_of;
 
 // The closed cycle of a kernel and the other bodies, into slices of as many cells as it has states.
@@ -29,19 +30,24 @@ pub fn solve_bodies(
     readings: &mut [f64],
     amounts: &mut [f64],
     residual: &mut [f64],
-) -> SteadyReply
+) -> Result<f64, Stop>
     requires { (sound kernel ≡ done kernel) × Readable window.now samples.now events.now
         × (length readings.old ≡ length samples.now / 8) × (length amounts.old ≡ state_count kernel) × (length residual.old ≡ state_count kernel) }
     ensures { SteadyAnswer (steady_with kernel (words_of window.now) (words_of samples.now) (words_of events.now))
         (steady_reply result) amounts.old residual.old amounts.new residual.new }
 {
     sheet_values::doubles(samples, 0, readings);
-    let list = sheet_events::events_of(events);
-    let count = events.len() / EVENT_BYTES;
+    let list = events_layout::events_of(Part(events));
     let span = sheet_values::window_of(window);
     let tolerance = tolerance_of(window);
     periodic::periodic_steady_state(
-        kernel, span, list, count, readings, tolerance, amounts, residual,
+        kernel,
+        span,
+        list.as_slice(),
+        readings,
+        tolerance,
+        amounts,
+        residual,
     )
 }
 

@@ -9,7 +9,7 @@ ghost use Rattle.rig_steady_sheet.specs.SteadySheet.{steady_printout_of_bytes};
 
 use limits::STATES;
 use printout::{PrintReply, print_refusal};
-use refusal::Reply;
+use refusal::Refusal;
 use rig_steady_cycle::steady_bodies;
 
 // The most bytes of a printout: amount and residual of the most states, and "max".
@@ -21,15 +21,12 @@ pub fn steady_sheet(bytes: &[u8], out: &mut [u8]) -> PrintReply
     ensures length_value { result.length ≡ printed_length (steady_printout_of_bytes bytes.now).text out.old }
     ensures out_after { out.new ≡ printed (steady_printout_of_bytes bytes.now).text out.old }
 {
-    let read = sheet_kernel::read_kernel(bytes);
-    let reply = read.reply;
-    match reply {
-        Reply::Refused(refusal) => print_refusal(refusal, out),
-        Reply::Done => {
-            let kernel = read.kernel;
+    match sheet_kernel::read_kernel(bytes) {
+        Err(refusal) => print_refusal(refusal, out),
+        Ok(read) => {
             let places = read.places;
             steady_bodies(
-                kernel,
+                read.kernel,
                 sheet::body(bytes, places.window, places.amounts),
                 sheet::body(bytes, places.samples, places.events),
                 sheet::body(bytes, places.events, places.end),

@@ -13,8 +13,8 @@ use lib.Ieee.Scale.{finite}
 use Rattle.binary64.specs.Doubles.{plus_zero, half, nonnegative}
 use Rattle.refusal.specs.Result.{Result, refused, done, and_then, unless, number, slice_at_exit}
 use Rattle.refusal.specs.Numbers.{reply_number, result_of}
-use Rattle.refusal.specs.declared.Reply.{Reply}
-use Rattle.refusal.specs.declared.Reply.TheVariants.{Done, Refused}
+use Rattle.refusal.specs.Numbers.{Reply}
+use Rattle.std.specs.Prelude.{Ok, Err}
 use Rattle.refusal.proofs.Numbers.{refusal-number}
 use Rattle.matrix.specs.Matrix.{Matrix, cell, tabulate, all_to}
 use Rattle.binary64.specs.Lists.{all, amounts_pass}
@@ -120,9 +120,9 @@ module _ (k : LinearPk) (n : ℕ) (x r : List Float) (d : Float) (room : ℕ) (s
     where
       on : (p : Reply) (a : Result (List Float)) → Sure (λ (y : List Float). length y ≡ length x) a → reply_number p ≡ number a
           → out ≡ slice_at_exit a old → result_of p (take n (out ++ rest)) ≡ a
-      on (Refused i) (refused c) s p q = ap refused p
-      on (Refused i) (done y) s p q = absurd (not-suc-le-zero (subst (λ (j : ℕ). 1 ≤ j) p (refusal-number i)))
-      on Done (refused c) s p q = absurd (lt_irrefl 0 (subst (λ (j : ℕ). 0 < j) (sym p) s))
-      on Done (done y) s p q =
+      on (Err i) (refused c) s p q = ap refused p
+      on (Err i) (done y) s p q = absurd (not-suc-le-zero (subst (λ (j : ℕ). 1 ≤ j) p (refusal-number i)))
+      on (Ok u) (refused c) s p q = absurd (lt_irrefl 0 (subst (λ (j : ℕ). 0 < j) (sym p) s))
+      on (Ok u) (done y) s p q =
           let w : out ≡ y = q ∙ ap (λ (v : List Float). y ++ v) (drop_of_length-le old {i = length y} (omega arith)) ∙ append-nil y in
           ap done (ap (λ (v : List Float). take n (v ++ rest)) w ∙ take-append-le n y rest (omega arith) ∙ take_all n y (omega arith))

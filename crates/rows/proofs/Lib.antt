@@ -5,4 +5,3 @@ pub mod Steps
 pub mod Kernel
 pub mod Exits
 pub mod Lengths
-pub mod Clears

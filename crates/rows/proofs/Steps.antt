@@ -1,6 +1,6 @@
 -- Single steps of a schedule, in the words of the code.
 use mathlib.Core.Path.{◌≡◌, refl, ap, ◌∙◌}
-use Prim.Native.Nat.{ℕ, ◌+◌, ◌-◌, ◌*◌, ◌<◌}
+use Prim.Native.Nat.{ℕ, ◌+◌, ◌*◌, ◌<◌}
 use native.Mathlib.Nat.{add-zero, sub-zero}
 use mathlib.Core.Bool.{Bool, true, false, cond}
 use mathlib.Core.List.{List, [], ◌∷◌}
@@ -12,7 +12,8 @@ use lib.Ieee.Scale.{finite}
 use Rattle.binary64.specs.Doubles.{plus_zero}
 use Rattle.refusal.specs.declared.Refusal.{Refusal}
 use Rattle.refusal.specs.declared.Refusal.TheVariants as R
-use Rattle.refusal.specs.declared.Reply.TheVariants.{Done, Refused}
+use Rattle.std.specs.Prelude.{Ok, Err, Result as Reached}
+use Rattle.refusal.specs.Numbers.{outcome_with}
 use Rattle.refusal.specs.Result.{Result, refused, done}
 use Rattle.binary64.specs.Lists.{all}
 use Rattle.protocol.specs.Schedule.{rates, reading, arrive}
@@ -21,9 +22,8 @@ use Rattle.protocol.specs.Execute.{after_advance, propagate, execute, run, begin
 use Rattle.protocol.specs.PlainRun.{rows_left}
 use Rattle.rows.specs.Written.{Cells, cells, put, RoomForRows}
 use Rattle.rows.specs.Onward.{goes_on_with, fresh, stops_with, past_row, past_advance}
-use Rattle.rows.specs.Standing.{Standing, is_refused, standing, behind_of, after, moved_of, Ran, Fits}
+use Rattle.rows.specs.Standing.{Standing, is_refused, standing, behind_of, after, Ran, Fits}
 use Rattle.rows.specs.declared.Progress.{Progress}
-use Rattle.rows.specs.declared.Move.{Move}
 
 -- a reading by the advance to its time, which comes to p: it stops where that does, or its row is that advance's and it goes on with the amounts of s
 abbrev read_by : Float → Standing → Standing → Standing × List Row
@@ -63,14 +63,14 @@ module _ {advance : Propagator} {n : ℕ} (start : Progress) (c : Cells) where
     unfolding after run execute propagate
     arrive-spent z = record { progress = rw (z, add-zero start.rows); cells = rw z }
 
-    module _ (m : Move) (g : 0 < start.left) (e : moved_of n m ≡ advance (take n start.amounts) r (sub binary64 u t)) where
-      pub arrive-refused : (x : Refusal) → m.reply ≡ Refused x → Ran advance n start (arrive t r u ∷ []) c (stops_with (past_advance start) x u) c
+    module _ {m : Reached (List Float) Refusal} (g : 0 < start.left) (e : outcome_with (take n) m ≡ advance (take n start.amounts) r (sub binary64 u t)) where
+      pub arrive-refused : (x : Refusal) → m ≡ Err x → Ran advance n start (arrive t r u ∷ []) c (stops_with (past_advance start) x u) c
       unfolding after run execute propagate
       arrive-refused x f = record { progress = rw (lt-ltb 0 start.left g, ← e, f, add-zero start.rows); cells = rw (lt-ltb 0 start.left g, ← e, f) }
 
-      pub arrive-done : m.reply ≡ Done → Ran advance n start (arrive t r u ∷ []) c (goes_on_with (past_advance start) m.amounts) c
+      pub arrive-done : (a : List Float) → m ≡ Ok a → Ran advance n start (arrive t r u ∷ []) c (goes_on_with (past_advance start) a) c
       unfolding after run execute propagate
-      arrive-done f = record { progress = rw (lt-ltb 0 start.left g, ← e, f, add-zero start.rows); cells = rw (lt-ltb 0 start.left g, ← e, f) }
+      arrive-done a f = record { progress = rw (lt-ltb 0 start.left g, ← e, f, add-zero start.rows); cells = rw (lt-ltb 0 start.left g, ← e, f) }
 
     -- ---- a reading at u: the row of that advance, and on with the amounts at t
     module _ {p : Progress} (h : Ran advance n start (arrive t r u ∷ []) c p c) where

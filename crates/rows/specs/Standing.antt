@@ -2,10 +2,9 @@
 use Rattle.std.specs.Prelude.{◌≡◌, ℕ, ◌+◌, ◌-◌, ◌≤◌, Bool, true, false, List, length, take, Float}
 use Rattle.limits.specs.Limits.{states}
 use Rattle.binary64.specs.Doubles.{plus_zero}
-use Rattle.refusal.specs.Result.{Result}
-use Rattle.refusal.specs.Numbers.{reply_number, result_of}
-use Rattle.refusal.specs.declared.Reply.{Reply}
-use Rattle.refusal.specs.declared.Reply.TheVariants.{Done, Refused}
+use Rattle.refusal.specs.Numbers.{reply_number}
+use Rattle.refusal.specs.Numbers.{Reply}
+use Rattle.std.specs.Prelude.{Ok, Err}
 use Rattle.matrix.specs.Exponential.{scheme}
 use Rattle.linear_pk.specs.declared.kernel.LinearPk.{LinearPk}
 use Rattle.linear_pk.specs.LinearPk.{advance}
@@ -14,11 +13,10 @@ use Rattle.protocol.specs.Execute.{Propagator, Row, Outcome, go, stop, run, begi
 use Rattle.protocol.specs.PlainRun.{rows_left}
 use Rattle.rows.specs.Written.{Cells, written, RoomForRows}
 use Rattle.rows.specs.declared.Progress.{Progress}
-use Rattle.rows.specs.declared.Move.{Move}
 
 abbrev pub is_refused : Reply → Bool
-is_refused Done = false
-is_refused (Refused r) = true
+is_refused (Ok u) = false
+is_refused (Err r) = true
 
 -- a progress, with 01's number of its refusal and the amounts as a list
 pub record Standing : Type 0 where
@@ -83,7 +81,3 @@ pub record Fits (n : ℕ) (start : Progress) (xs : List Step) (c : Cells) : Type
 -- ---- the kernel's advance
 unfoldable pub kernel_advance : LinearPk → ℕ → Propagator
 kernel_advance k n a r d = advance scheme k a r d n
-
--- what the code's advance gives
-abbrev pub moved_of : ℕ → Move → Result (List Float)
-moved_of n m = result_of m.reply (take n m.amounts)

@@ -1,4 +1,4 @@
-// The blocks of a run: a row written into lent slices, the kernel's advance and the arrival at a boundary; zeros over the reckoned rows.
+// The blocks of a run: a row written into lent slices, the kernel's advance and the arrival at a boundary.
 #![tactic(auto)]
 
 ghost use Rattle.std.specs.Prelude.{◌≡◌, [], ◌∷◌, ◌++◌, ℕ, ◌+◌, ◌*◌, ◌≤◌, ◌<◌, length, take, drop};
@@ -6,19 +6,18 @@ ghost use Rattle.limits.specs.Limits.{states};
 ghost use Rattle.protocol.specs.Schedule.{arrive as arrives};
 ghost use Rattle.rows.specs.Written.{Cells, cells, put, RoomForRows};
 ghost use Rattle.rows.specs.Onward.{goes_on_with, fresh, stops_with, past_row, past_advance};
-ghost use Rattle.rows.specs.Standing.{is_refused, kernel_advance, moved_of, Ran};
-ghost use Rattle.binary64.specs.Doubles.{plus_zero};
-ghost use Rattle.protocol.specs.Entry.{front_then_zeros};
+ghost use Rattle.rows.specs.Standing.{is_refused, kernel_advance, Ran};
+ghost use Rattle.refusal.specs.Numbers.{outcome_with};
 
 use limits::STATES;
 use linear_pk::LinearPk;
-use refusal::{Refusal, Reply};
+use refusal::Refusal;
 
 // Where a run has come to: whether it was refused and at which time; the amounts, what is left of the budget of advances, the advances
 // made, and the rows written.
 #[derive(Clone, Copy)]
 pub struct Progress {
-    pub reply: Reply,
+    pub reply: Result<(), Refusal>,
     pub time: f64,
     pub amounts: [f64; STATES],
     pub left: u64,
@@ -33,8 +32,8 @@ impl Progress {
     {
         let reply = self.reply;
         match reply {
-            Reply::Done => false,
-            Reply::Refused(_) => true,
+            Ok(()) => false,
+            Err(_) => true,
         }
     }
 
@@ -43,7 +42,7 @@ impl Progress {
         ensures { result ≡ goes_on_with self amounts }
     {
         Progress {
-            reply: Reply::Done,
+            reply: Ok(()),
             time: 0.0,
             amounts: amounts,
             left: self.left,
@@ -66,7 +65,7 @@ impl Progress {
     {
         let amounts = self.amounts;
         Progress {
-            reply: Reply::Refused(refusal),
+            reply: Err(refusal),
             time: time,
             amounts: amounts,
             left: self.left,
@@ -82,7 +81,7 @@ impl Progress {
     {
         let amounts = self.amounts;
         Progress {
-            reply: Reply::Done,
+            reply: Ok(()),
             time: 0.0,
             amounts: amounts,
             left: self.left,
@@ -99,7 +98,7 @@ impl Progress {
         let amounts = self.amounts;
         let left = self.left;
         Progress {
-            reply: Reply::Done,
+            reply: Ok(()),
             time: 0.0,
             amounts: amounts,
             left: if left == 0 { 0 } else { left - 1 },
@@ -109,23 +108,12 @@ impl Progress {
     }
 }
 
-// What the kernel's advance gives: amounts, or a refusal.
-#[derive(Clone, Copy)]
-pub struct Move {
-    pub reply: Reply,
-    pub amounts: [f64; STATES],
-}
-
 // The row writer: a row's amounts from the front of the part of the values that is lent to it; the cells behind them stay.
 fn row_writer(amounts: &[f64], part: &mut [f64])
     requires { length amounts.now ≤ length part.old }
     ensures { part.new ≡ amounts.now ++ drop (length amounts.now) part.old }
 {
-    let mut i = 0usize;
-    while i < amounts.len() {
-        part[i] = amounts[i];
-        i += 1;
-    }
+    part[..amounts.len()].copy_from_slice(amounts);
 }
 
 // A row into the three slices: its time and its side's code at place row, its n amounts from place row × n on.
@@ -178,18 +166,13 @@ fn propagate(
     amounts: [f64; STATES],
     rates: [f64; STATES],
     duration: f64,
-) -> Move
+) -> Result<[f64; STATES], Refusal>
     requires { n ≤ states }
-    ensures { moved_of n result ≡ kernel_advance kernel n (take n amounts) (take n rates) duration }
+    ensures { outcome_with (take n) result ≡ kernel_advance kernel n (take n amounts) (take n rates) duration }
 {
     let mut next = [0.0f64; STATES];
-    let from = &amounts[..n];
-    let input = &rates[..n];
-    let reply = kernel.advance(from, input, duration, &mut next[..n]);
-    Move {
-        reply,
-        amounts: next,
-    }
+    kernel.advance(&amounts[..n], &rates[..n], duration, &mut next[..n])?;
+    Ok(next)
 }
 
 // The advance from the boundary t to the time u, the next boundary's or a reading's: 30 where the budget is spent, or the kernel's refusal.
@@ -209,33 +192,8 @@ pub fn arrive(
         return next.stopped_by(Refusal::PropagationBudget, u);
     }
     let amounts = start.amounts;
-    let m = propagate(kernel, n, amounts, rates, u - t);
-    let reply = m.reply;
-    match reply {
-        Reply::Refused(refusal) => next.stopped_by(refusal, u),
-        Reply::Done => {
-            let reached = m.amounts;
-            next.with_amounts(reached)
-        }
-    }
-}
-
-// The first k cells, of times or of values.
-pub fn clear_reals(list: &mut [f64], k: usize)
-    requires { k ≤ length list.old }
-    ensures { list.new ≡ front_then_zeros plus_zero k [] list.old }
-{
-    for i in 0..k {
-        list[i] = 0.0;
-    }
-}
-
-// The first k sides.
-pub fn clear_sides(list: &mut [u8], k: usize)
-    requires { k ≤ length list.old }
-    ensures { list.new ≡ front_then_zeros 0 k [] list.old }
-{
-    for i in 0..k {
-        list[i] = 0;
+    match propagate(kernel, n, amounts, rates, u - t) {
+        Err(refusal) => next.stopped_by(refusal, u),
+        Ok(reached) => next.with_amounts(reached),
     }
 }

@@ -1,15 +1,12 @@
 // From a boundary to the next: the readings strictly inside, and the arrival.
 #![tactic(auto)]
 
-ghost use Rattle.std.specs.Prelude.{[], ◌∷◌, map, take, ◌≡◌};
+ghost use Rattle.std.specs.Prelude.{[], ◌∷◌, map, take};
 ghost use Rattle.protocol.specs.Schedule.{reading, on_interval};
 ghost use Rattle.rows.specs.Written.{cells};
 ghost use Rattle.rows.specs.Standing.{kernel_advance, Ran, Fits};
-ghost use Rattle.std.specs.Float.Ieee.Scale.{finite};
-ghost use Rattle.binary64.specs.Lists.{all};
 ghost use Rattle.protocol.specs.Events.{inside};
 
-use binary64::Test;
 use limits::STATES;
 use linear_pk::LinearPk;
 use refusal::Refusal;
@@ -59,9 +56,8 @@ fn read_all(
         (cells times.old sides.old values.old) result (cells times.new sides.new values.new) }
 {
     let mut p = start.resumed();
-    let mut k = 0usize;
-    while k < samples.len() {
-        let s = samples[k];
+    for s in samples {
+        let s = *s;
         if t < s {
             if s < u {
                 let q = read(kernel, n, t, rates, s, p, times, sides, values);
@@ -71,15 +67,8 @@ fn read_all(
                 p = q;
             }
         }
-        k += 1;
     }
     p
-}
-
-fn all_finite(values: &[f64]) -> bool
-    ensures { result ≡ all finite values.now }
-{
-    binary64::all_pass(Test::Finite, values)
 }
 
 // From the boundary t to the next boundary u at the summed rates: 32, the readings, the arrival.
@@ -99,8 +88,7 @@ pub fn on_interval(
     ensures { Ran (kernel_advance kernel n) n start (on_interval t (take n rates) u samples.now)
         (cells times.old sides.old values.old) result (cells times.new sides.new values.new) }
 {
-    let summed = &rates[..n];
-    if !all_finite(summed) {
+    if !binary64::all_finite(&rates[..n]) {
         return start.stopped_by(Refusal::SummedRates, 0.0);
     }
     let p = read_all(kernel, n, t, rates, u, samples, start, times, sides, values);

@@ -7,7 +7,7 @@ use lib.ListN.{length, get_or, take, drop, length-drop}
 use lib.Seq.{length-take-le, get_or-drop, take-take, drop-drop}
 use Rattle.matrix.specs.Matrix.{tabulate}
 use Rattle.matrix.proofs.Filled.{tabulate-length}
-use Rattle.events.proofs.Packing.{tabulate-take}
+use Rattle.events_layout.proofs.Laws.{tabulate-take}
 use Rattle.sheet_words.proofs.Bytes.{word_at}
 use Rattle.sheet.specs.Sheet.{little_endian, words_of}
 

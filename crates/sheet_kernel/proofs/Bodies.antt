@@ -1,5 +1,5 @@
 -- The bodies of a sheet that is read, between their places.
-use mathlib.Core.Path.{◌≡◌, sym, ap, ◌∙◌, subst}
+use mathlib.Core.Path.{◌≡◌, refl, sym, ap, ◌∙◌, subst}
 use mathlib.Core.Bool.{true, ◌&&◌}
 use mathlib.Core.List.{List}
 use Prim.Native.Nat.{ℕ, ◌*◌, ◌≤◌}
@@ -8,11 +8,11 @@ use borrow.Author.Tests.{leb-true, eqb-true}
 use lib.Dec.{leb}
 use lib.ListN.{length}
 use Rattle.limits.specs.Limits.{most_cycle_events, most_samples}
-use Rattle.refusal.specs.Result.{done, number}
+use Rattle.refusal.specs.Result.{Result, refused, done, and_then, number}
 use Rattle.linear_pk.proofs.Counted.{and_first, and_second}
 use Rattle.events_layout.specs.Layout.{event_count, events_fit}
-use Rattle.sheet.specs.Sheet.{words_of, body, model_fits, window_fits, sheet_of, read_sheet}
-use Rattle.sheet.specs.Reader.{places_read, Located, Between}
+use Rattle.sheet.specs.Sheet.{words_of, Sheet, body, model_fits, window_fits, sheet_of, read_sheet}
+use Rattle.sheet.specs.Reader.{places_of, read_places, Located, Between}
 use Rattle.sheet.specs.Readable.{Readable}
 use Rattle.sheet.proofs.Places.{words-length, body_at}
 use Rattle.sheet.proofs.Reading.{Passes, read_passes, reads, places-located}
@@ -26,18 +26,35 @@ pub record Inside (bs : List ℕ) (p : Places) : Type 0 where
   pub samples : (p.samples ≤ p.events) × (8 * p.events ≤ length bs)
   pub events : (p.events ≤ p.end) × (8 * p.end ≤ length bs)
 
-module _ (bs : List ℕ) (q : number (read_sheet bs) ≡ 0) (p : Places) (e : p ≡ places_read (words_of bs) (read_sheet bs)) where
+-- a sheet whose bodies lie at these places
+pub record ReadAt (bs : List ℕ) (p : Places) : Type 0 where
+  pub sheet : read_sheet bs ≡ done (sheet_of (words_of bs))
+  pub places : p ≡ places_of (words_of bs)
+
+-- what is read is the sheet of the words
+pub sheet_read : (bs : List ℕ) {s : Sheet} → read_sheet bs ≡ done s → read_sheet bs ≡ done (sheet_of (words_of bs))
+sheet_read bs e = let p = read_passes bs (ap number e) in reads bs p.head p.bodies p.limits
+
+pub read_at : {bs : List ℕ} {p : Places} → done p ≡ read_places bs → ReadAt bs p
+unfolding read_places
+read_at {bs} {p} = on (read_sheet bs) refl
+  where
+    on : (r : Result Sheet) → read_sheet bs ≡ r → done p ≡ and_then r (λ (s : Sheet). done (places_of (words_of bs))) → ReadAt bs p
+    on (refused c) e q = absurd (no q)
+      where
+        no : {c : ℕ} → done p ≡ refused c → ⊥
+        no q = cc
+    on (done s) e q = record { sheet = sheet_read bs e; places = cc }
+
+module _ {bs : List ℕ} {p : Places} (r : ReadAt bs p) where
   abbrev ws : List ℕ
   ws = words_of bs
 
   passed : Passes bs
-  passed = read_passes bs q
-
-  pub read_is : read_sheet bs ≡ done (sheet_of ws)
-  read_is = reads bs passed.head passed.bodies passed.limits
+  passed = read_passes bs (ap number r.sheet)
 
   located : Located ws p
-  located = subst (Located ws) (sym (e ∙ ap (places_read ws) read_is)) (places-located bs passed.head)
+  located = subst (Located ws) (sym r.places) (places-located bs passed.head)
 
   pub inside : Inside bs p
   inside =
@@ -53,19 +70,19 @@ module _ (bs : List ℕ) (q : number (read_sheet bs) ≡ 0) (p : Places) (e : p 
 
   -- ---- the parts that are cut
   pub model_is : {part : List ℕ} → Between bs p.model p.window part → words_of part ≡ body ws 0
-  model_is r = r.words ∙ body_at ws p.model p.window 0 located.model.0 located.model.1
+  model_is t = t.words ∙ body_at ws p.model p.window 0 located.model.0 located.model.1
 
   pub window_is : {part : List ℕ} → Between bs p.window p.amounts part → words_of part ≡ body ws 1
-  window_is r = r.words ∙ body_at ws p.window p.amounts 1 located.window.0 located.window.1
+  window_is t = t.words ∙ body_at ws p.window p.amounts 1 located.window.0 located.window.1
 
   pub amounts_are : {part : List ℕ} → Between bs p.amounts p.samples part → words_of part ≡ body ws 2
-  amounts_are r = r.words ∙ body_at ws p.amounts p.samples 2 located.amounts.0 located.amounts.1
+  amounts_are t = t.words ∙ body_at ws p.amounts p.samples 2 located.amounts.0 located.amounts.1
 
   pub samples_are : {part : List ℕ} → Between bs p.samples p.events part → words_of part ≡ body ws 3
-  samples_are r = r.words ∙ body_at ws p.samples p.events 3 located.samples.0 located.samples.1
+  samples_are t = t.words ∙ body_at ws p.samples p.events 3 located.samples.0 located.samples.1
 
   pub events_are : {part : List ℕ} → Between bs p.events p.end part → words_of part ≡ body ws 4
-  events_are r = r.words ∙ body_at ws p.events p.end 4 located.events.0 located.events.1
+  events_are t = t.words ∙ body_at ws p.events p.end 4 located.events.0 located.events.1
 
   -- ---- what their readers ask
   pub model_fits_lem : {part : List ℕ} → Between bs p.model p.window part → model_fits (words_of part) ≡ true

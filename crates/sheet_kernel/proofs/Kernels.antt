@@ -1,21 +1,18 @@
 -- What a sheet's reader answers: a refusal, or a kernel and the bodies that go with it.
 use mathlib.Core.Path.{◌≡◌, refl, sym, ap, ◌∙◌}
 use mathlib.Core.List.{List}
-use Prim.Native.Nat.{ℕ, ◌<◌}
+use Prim.Native.Nat.{ℕ}
 use native.Mathlib.Omega.{arith}
-use Rattle.refusal.specs.Result.{Result, refused, done, and_then, number, value_or}
-use Rattle.refusal.specs.Numbers.{refusal_number, result_of}
-use Rattle.refusal.specs.declared.Refusal.{Refusal}
-use Rattle.refusal.specs.declared.Reply.{Reply}
-use Rattle.refusal.specs.declared.Reply.TheVariants.{Done, Refused}
+use Rattle.refusal.specs.Result.{Result, refused, done, and_then, number}
 use Rattle.linear_pk.specs.LinearPk.{sound}
 use Rattle.linear_pk.specs.declared.kernel.LinearPk.{LinearPk}
 use Rattle.linear_pk.proofs.NewSound.{new-sound}
 use Rattle.sheet.specs.Sheet.{words_of, Sheet, sheet_of, read_sheet}
-use Rattle.sheet.specs.Reader.{Between}
+use Rattle.sheet.specs.Reader.{places_of, read_places, Between}
+use Rattle.sheet_words.specs.declared.Places.{Places}
 use Rattle.sheet.specs.Readable.{Readable}
 use Rattle.sheet_kernel.specs.Values.{model_of}
-use Rattle.sheet_kernel.specs.Read.{WithKernel, with_kernel, modelled, kernel_of_bytes, Reads}
+use Rattle.sheet_kernel.specs.Read.{modelled, read_kernel}
 use Rattle.sheet_kernel.specs.declared.SheetKernel.{SheetKernel}
 use Rattle.sheet_kernel.proofs.Bodies as bodies
 
@@ -27,96 +24,87 @@ model-sound m {k} q = new-sound _ _ _ _ k q
 no_value : {A : Type 0} {c : ℕ} {a : A} → refused c ≡ done a → ⊥
 no_value q = let z : ◌≡◌ {A = ℕ} 0 1 = cc in omega arith
 
--- the answer, by the reader and by the model
-module _ {s : Sheet} {k : LinearPk} where
-  modelled_is : (t : Sheet) (m : Result LinearPk) → model_of t.model ≡ m → and_then m (λ (j : LinearPk). done (with_kernel t j)) ≡ done (with_kernel s k)
-      → (t ≡ s) × (model_of s.model ≡ done k)
-  modelled_is t (refused c) e q = absurd (no_value q)
-  modelled_is t (done j) e q =
-      let same : t ≡ s = ap (λ (x : Result WithKernel). (value_or x (with_kernel s k)).sheet) q in (
-        same,
-        ap (λ (x : Sheet). model_of x.model) (sym same)
-            ∙ e ∙ ap (λ (x : Result WithKernel). done (value_or x (with_kernel s k)).kernel) q,
-      )
+-- ---- what is read: the sheet, its kernel, and the places of its bodies
+pub record KernelRead (bs : List ℕ) (r : SheetKernel) : Type 0 where
+  pub at : bodies.ReadAt bs r.places
+  pub model : model_of (sheet_of (words_of bs)).model ≡ done r.kernel
 
-  read_is : (r : Result Sheet) → and_then r modelled ≡ done (with_kernel s k) → (r ≡ done s) × (model_of s.model ≡ done k)
-  read_is (refused c) q = absurd (no_value q)
-  read_is (done t) q = let h = modelled_is t (model_of t.model) refl q in (ap (λ (x : Sheet). done x) h.0, h.1)
+pub kernel_read : {bs : List ℕ} {r : SheetKernel} → done r ≡ read_kernel bs → KernelRead bs r
+unfolding read_kernel
+kernel_read {bs} {r} = on (read_sheet bs) refl
+  where
+    made : (m : Result LinearPk) → done r ≡ and_then m (λ (k : LinearPk). done (record { kernel = k; places = places_of (words_of bs) }))
+        → (m ≡ done r.kernel) × (r.places ≡ places_of (words_of bs))
+    made (refused c) q = absurd (no_value (sym q))
+    made (done k) q = let e : r ≡ record { kernel = k; places = places_of (words_of bs) } = cc in (ap (λ (x : SheetKernel). done x.kernel) (sym e), ap (λ (x : SheetKernel). x.places) e)
+
+    on : (x : Result Sheet) → read_sheet bs ≡ x → done r ≡ and_then x (modelled bs) → KernelRead bs r
+    on (refused c) e q = absurd (no_value (sym q))
+    on (done s) e q =
+        let h = bodies.sheet_read bs e in
+        let same : s ≡ sheet_of (words_of bs) = cc in
+        let m = made (model_of s.model) q in
+        record { at = record { sheet = h; places = m.1 }; model = ap (λ (x : Sheet). model_of x.model) (sym same) ∙ m.0 }
 
 -- ---- how it comes about
-pub not_read : (bs : List ℕ) {c : ℕ} → c ≡ number (read_sheet bs) → 0 < c → refused c ≡ kernel_of_bytes bs
-unfolding kernel_of_bytes
-not_read bs e h = on (read_sheet bs) e h
+pub unread : (bs : List ℕ) {c : ℕ} → refused c ≡ read_places bs → refused c ≡ read_kernel bs
+unfolding read_places read_kernel
+unread bs = on (read_sheet bs)
   where
-    on : (r : Result Sheet) {c : ℕ} → c ≡ number r → 0 < c → refused c ≡ and_then r modelled
-    on (refused d) e h = ap (λ (j : ℕ). refused j) e
-    on (done s) e h = absurd (no e h)
-      where
-        no : {c : ℕ} → c ≡ 0 → 0 < c → ⊥
-        no e h = omega arith
+    on : (x : Result Sheet) {c : ℕ} → refused c ≡ and_then x (λ (s : Sheet). done (places_of (words_of bs))) → refused c ≡ and_then x (modelled bs)
+    on (refused d) q = ap (λ (x : Result Places). refused (number x)) q
+    on (done s) q = absurd (no_value q)
 
-pub read_made : (bs : List ℕ) {s : Sheet} → read_sheet bs ≡ done s → (reply : Reply) (k : LinearPk) → result_of reply k ≡ model_of s.model
-    → result_of reply (with_kernel s k) ≡ kernel_of_bytes bs
-unfolding kernel_of_bytes
-read_made bs {s} e reply k m =
-    over reply ∙ ap (λ (x : Result LinearPk). and_then x (λ (j : LinearPk). done (with_kernel s j))) m
-    ∙ sym (ap (λ (x : Result Sheet). and_then x modelled) e)
-  where
-    over : (reply : Reply) → result_of reply (with_kernel s k) ≡ and_then (result_of reply k) (λ (j : LinearPk). done (with_kernel s j))
-    over Done = refl
-    over (Refused x) = refl
+module _ {bs : List ℕ} {p : Places} (r : bodies.ReadAt bs p) where
+  pub unmade : {c : ℕ} → refused c ≡ model_of (sheet_of (words_of bs)).model → refused c ≡ read_kernel bs
+  unfolding read_kernel
+  unmade q = ap (λ (x : Result LinearPk). and_then x (λ (k : LinearPk). done (record { kernel = k; places = places_of (words_of bs) }))) q
+      ∙ sym (ap (λ (x : Result Sheet). and_then x (modelled bs)) r.sheet)
 
--- ---- the code's answer
-module _ {bs : List ℕ} {r : SheetKernel} (read : Reads bs r) where
-  refuses : {x : Refusal} → r.reply ≡ Refused x → kernel_of_bytes bs ≡ refused (refusal_number x)
-  refuses e = sym read.answer ∙ ap (λ (y : Reply). result_of y (with_kernel (sheet_of (words_of bs)) r.kernel)) e
+  pub is_read : {k : LinearPk} → done k ≡ model_of (sheet_of (words_of bs)).model → done (record { kernel = k; places = p }) ≡ read_kernel bs
+  unfolding read_kernel
+  is_read {k} q = ap (λ (x : Places). done (record { kernel = k; places = x })) r.places
+      ∙ ap (λ (x : Result LinearPk). and_then x (λ (k : LinearPk). done (record { kernel = k; places = places_of (words_of bs) }))) q
+      ∙ sym (ap (λ (x : Result Sheet). and_then x (modelled bs)) r.sheet)
 
-  module _ (told : r.reply ≡ Done) where
-    pub parts : (read_sheet bs ≡ done (sheet_of (words_of bs))) × (model_of (sheet_of (words_of bs)).model ≡ done r.kernel)
-    unfolding kernel_of_bytes
-    parts = read_is (read_sheet bs) (sym read.answer ∙ ap (λ (y : Reply). result_of y (with_kernel (sheet_of (words_of bs)) r.kernel)) told)
+module _ {bs : List ℕ} {r : SheetKernel} (read : KernelRead bs r) where
+  pub kernel-sound : sound r.kernel ≡ done r.kernel
+  kernel-sound = model-sound (sheet_of (words_of bs)).model read.model
 
-    pub kernel-sound : sound r.kernel ≡ done r.kernel
-    kernel-sound = model-sound (sheet_of (words_of bs)).model parts.1
+  pub inside : bodies.Inside bs r.places
+  inside = bodies.inside read.at
 
-    pub inside : bodies.Inside bs r.places
-    inside = bodies.inside bs (ap number parts.0) r.places read.located
+  -- the parts that are cut at the places
+  module _ {window samples events : List ℕ} (w : Between bs r.places.window r.places.amounts window)
+      (s : Between bs r.places.samples r.places.events samples)
+      (v : Between bs r.places.events r.places.end events) where
+    pub readable : Readable window samples events
+    readable = bodies.readable read.at w s v
 
-    -- the parts that are cut at the places
-    module _ {window samples events : List ℕ} (w : Between bs r.places.window r.places.amounts window)
-        (s : Between bs r.places.samples r.places.events samples)
-        (v : Between bs r.places.events r.places.end events) where
-      pub readable : Readable window samples events
-      readable = bodies.readable bs (ap number parts.0) r.places read.located w s v
+    pub words_are : (words_of window ≡ (sheet_of (words_of bs)).window) × (words_of samples ≡ (sheet_of (words_of bs)).samples)
+        × (words_of events ≡ (sheet_of (words_of bs)).events)
+    words_are = (bodies.window_is read.at w, bodies.samples_are read.at s, bodies.events_are read.at v)
 
-      pub words_are : (words_of window ≡ (sheet_of (words_of bs)).window) × (words_of samples ≡ (sheet_of (words_of bs)).samples)
-          × (words_of events ≡ (sheet_of (words_of bs)).events)
-      words_are = (
-        bodies.window_is bs (ap number parts.0) r.places read.located w,
-        bodies.samples_are bs (ap number parts.0) r.places read.located s,
-        bodies.events_are bs (ap number parts.0) r.places read.located v,
-      )
-
-    pub amounts_are : {amounts : List ℕ} → Between bs r.places.amounts r.places.samples amounts
-        → words_of amounts ≡ (sheet_of (words_of bs)).amounts
-    amounts_are a = bodies.amounts_are bs (ap number parts.0) r.places read.located a
+  pub amounts_are : {amounts : List ℕ} → Between bs r.places.amounts r.places.samples amounts
+      → words_of amounts ≡ (sheet_of (words_of bs)).amounts
+  amounts_are a = bodies.amounts_are read.at a
 
 -- ---- an entry over what is read: a refusal's number gives no, else f is of the kernel and the sheet
 module _ {B : Type 0} (entry : Result Sheet → B) (no : ℕ → B) (f : LinearPk → Sheet → B) (unread : (c : ℕ) → entry (refused c) ≡ no c)
     (unmade : (s : Sheet) (c : ℕ) → model_of s.model ≡ refused c → entry (done s) ≡ no c)
     (runs : (s : Sheet) (k : LinearPk) → model_of s.model ≡ done k → entry (done s) ≡ f k s) where
-  pub entry-refuses : {bs : List ℕ} {r : SheetKernel} → Reads bs r → {x : Refusal} → r.reply ≡ Refused x → entry (read_sheet bs) ≡ no (refusal_number x)
-  unfolding kernel_of_bytes
-  entry-refuses {bs} read e = on (read_sheet bs) (refuses read e)
+  pub entry-refuses : (bs : List ℕ) {c : ℕ} → refused c ≡ read_kernel bs → entry (read_sheet bs) ≡ no c
+  unfolding read_kernel
+  entry-refuses bs = on (read_sheet bs)
     where
-      model : (s : Sheet) (m : Result LinearPk) → model_of s.model ≡ m → {c : ℕ} → and_then m (λ (k : LinearPk). done (with_kernel s k)) ≡ refused c
-          → entry (done s) ≡ no c
-      model s (refused d) p q = unmade s d p ∙ ap (λ (x : Result WithKernel). no (number x)) q
-      model s (done k) p q = absurd (no_value (sym q))
+      model : (s : Sheet) (m : Result LinearPk) → model_of s.model ≡ m → {c : ℕ}
+          → ◌≡◌ {A = Result SheetKernel} (refused c) (and_then m (λ (k : LinearPk). done (record { kernel = k; places = places_of (words_of bs) }))) → entry (done s) ≡ no c
+      model s (refused d) p q = unmade s d p ∙ ap (λ (x : Result SheetKernel). no (number x)) (sym q)
+      model s (done k) p q = absurd (no_value q)
 
-      on : (x : Result Sheet) {c : ℕ} → and_then x modelled ≡ refused c → entry x ≡ no c
-      on (refused d) q = unread d ∙ ap (λ (x : Result WithKernel). no (number x)) q
+      on : (x : Result Sheet) {c : ℕ} → refused c ≡ and_then x (modelled bs) → entry x ≡ no c
+      on (refused d) q = unread d ∙ ap (λ (x : Result SheetKernel). no (number x)) (sym q)
       on (done s) q = model s (model_of s.model) refl q
 
-  pub entry_runs : {bs : List ℕ} {r : SheetKernel} → Reads bs r → r.reply ≡ Done → entry (read_sheet bs) ≡ f r.kernel (sheet_of (words_of bs))
-  entry_runs {bs} {r} read told = let h = parts read told in ap entry h.0 ∙ runs (sheet_of (words_of bs)) r.kernel h.1
+  pub entry_runs : {bs : List ℕ} {r : SheetKernel} → KernelRead bs r → entry (read_sheet bs) ≡ f r.kernel (sheet_of (words_of bs))
+  entry_runs {bs} {r} read = ap entry read.at.sheet ∙ runs (sheet_of (words_of bs)) r.kernel read.model

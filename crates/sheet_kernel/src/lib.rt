@@ -2,39 +2,35 @@
 #![tactic(auto)]
 
 ghost use Rattle.std.specs.Prelude.{◌≡◌, true, ◌+◌, ◌-◌, ◌*◌, ◌≤◌, length};
-ghost use Rattle.refusal.specs.Numbers.{result_of};
-ghost use Rattle.linear_pk.specs.LinearPk.{no_kernel};
-ghost use Rattle.refusal.specs.Result.{value_or};
+ghost use Rattle.refusal.specs.Numbers.{outcome_of};
 ghost use Rattle.sheet_words.specs.Words.{words_of, word};
 ghost use Rattle.sheet.specs.Model.{model_fits};
 ghost use Rattle.sheet_kernel.specs.Values.{model_absorption, model_of};
-ghost use Rattle.sheet_kernel.specs.Read.{Reads};
+ghost use Rattle.sheet_kernel.specs.Read.{read_kernel};
 ghost use Rattle.sheet_kernel.specs.CycleTolerance.{tolerance_of};
 
 use cycle::SteadyStateTolerance;
 use limits::VOLUMES;
-use linear_pk::{LinearPk, Made};
-use linear_pk_values::Absorption;
-use refusal::Reply;
+use linear_pk::LinearPk;
+use refusal::Refusal;
 use sheet_words::Places;
 
-fn absorption_of(part: &[u8]) -> Absorption
+fn absorption_of(part: &[u8]) -> Option<f64>
     requires { 32 ≤ length part.now }
     ensures { result ≡ model_absorption (words_of part.now) }
 {
     if sheet_words::word(part, 1) == 1 {
-        Absorption::FirstOrder(sheet_values::double(part, 2))
+        Some(sheet_values::double(part, 2))
     } else {
-        Absorption::Absent
+        None
     }
 }
 
 // The kernel of volumes and exchanges that are laid out in front.
-fn kernel_from(part: &[u8], volumes: &mut [f64], exchange: &mut [f64]) -> Made
+fn kernel_from(part: &[u8], volumes: &mut [f64], exchange: &mut [f64]) -> Result<LinearPk, Refusal>
     requires { (length volumes.old ≡ word (words_of part.now) 3) × (length exchange.old ≡ word (words_of part.now) 3 - 1)
         × (8 * (4 + (length volumes.old + length exchange.old)) ≤ length part.now) }
-    ensures kernel_value { result_of result.reply result.kernel ≡ model_of (words_of part.now) }
-    ensures kernel_value_2 { result.kernel ≡ value_or (model_of (words_of part.now)) no_kernel }
+    ensures { outcome_of result ≡ model_of (words_of part.now) }
 {
     let count = volumes.len();
     sheet_values::doubles(part, 4, volumes);
@@ -48,10 +44,9 @@ fn kernel_from(part: &[u8], volumes: &mut [f64], exchange: &mut [f64]) -> Made
 }
 
 // The kernel of a model's body.
-pub fn kernel_of(part: &[u8]) -> Made
+pub fn kernel_of(part: &[u8]) -> Result<LinearPk, Refusal>
     requires { model_fits (words_of part.now) ≡ true }
-    ensures kernel_value { result_of result.reply result.kernel ≡ model_of (words_of part.now) }
-    ensures kernel_value_2 { result.kernel ≡ value_or (model_of (words_of part.now)) no_kernel }
+    ensures { outcome_of result ≡ model_of (words_of part.now) }
 {
     let count = sheet_words::word(part, 3) as usize;
     let mut volumes = [0.0f64; VOLUMES];
@@ -59,41 +54,20 @@ pub fn kernel_of(part: &[u8]) -> Made
     kernel_from(part, &mut volumes[..count], &mut exchange[..count - 1])
 }
 
-// Done, or 40, 5, 1 or 2; with the kernel of the model, and the places of the bodies.
+// The kernel of a sheet's model, and the places of its bodies.
 #[derive(Clone, Copy)]
 pub struct SheetKernel {
-    pub reply: Reply,
     pub kernel: LinearPk,
     pub places: Places,
 }
 
-// A sheet, and the kernel of its model.
-pub fn read_kernel(bytes: &[u8]) -> SheetKernel
-    ensures { Reads bytes.now result }
+// A sheet, and the kernel of its model; or 40, 5, 1 or 2.
+pub fn read_kernel(bytes: &[u8]) -> Result<SheetKernel, Refusal>
+    ensures { outcome_of result ≡ read_kernel bytes.now }
 {
-    let read = sheet::read_sheet(bytes);
-    let places = read.places;
-    let answer = read.reply;
-    match answer {
-        Reply::Refused(refusal) => {
-            let kernel = linear_pk::none();
-            SheetKernel {
-                reply: Reply::Refused(refusal),
-                kernel,
-                places,
-            }
-        }
-        Reply::Done => {
-            let made = kernel_of(sheet::body(bytes, places.model, places.window));
-            let kernel = made.kernel;
-            let reply = made.reply;
-            SheetKernel {
-                reply,
-                kernel,
-                places,
-            }
-        }
-    }
+    let places = sheet::read_sheet(bytes)?;
+    let kernel = kernel_of(sheet::body(bytes, places.model, places.window))?;
+    Ok(SheetKernel { kernel, places })
 }
 
 // The last two words of the window.

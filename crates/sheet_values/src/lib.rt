@@ -19,10 +19,8 @@ pub fn doubles(part: &[u8], i: usize, out: &mut [f64])
     requires { 8 * (i + length out.old) ≤ length part.now }
     ensures { out.new ≡ doubles_from (words_of part.now) i (length out.old) }
 {
-    let mut k = 0usize;
-    while k < out.len() {
-        out[k] = double(part, i + k);
-        k += 1;
+    for (k, x) in out.iter_mut().enumerate() {
+        *x = double(part, i + k);
     }
 }
 
@@ -32,6 +30,7 @@ fn propagations_of(given: u64) -> u64
     if given == 0 { 1000 } else { given }
 }
 
+#[tactic(auto, unfolding(crate::specs::Values::sheet_window))]
 // The window of a run; 1,000 propagations where the word is 0.
 pub fn window_of(part: &[u8]) -> Window
     requires { 72 ≤ length part.now }

@@ -25,10 +25,6 @@ end_at ws = next_of ws (events_at ws) 4
 abbrev pub places_of : List ℕ → Places
 places_of ws = record { model = 11; window = window_at ws; amounts = amounts_at ws; samples = samples_at ws; events = events_at ws; end = end_at ws }
 
--- at a refusal the places are zeros
-abbrev pub no_places : Places
-no_places = record { model = 0; window = 0; amounts = 0; samples = 0; events = 0; end = 0 }
-
 -- each body lies where its pair says, between two places, and the last ends where the file does
 pub record Located (ws : List ℕ) (p : Places) : Type 0 where
   pub model : (p.model ≡ first_word ws 0) × (p.window ≡ p.model + word_count ws 0)

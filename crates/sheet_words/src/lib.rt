@@ -10,34 +10,15 @@ use limits::SHEET_WORDS;
 
 const HEAD: usize = 11;
 
-fn byte(bytes: &[u8], at: usize) -> u64
-    requires { at < length bytes.now }
-    ensures { (result < 256) × (result ≡ get_or bytes.now at 0) }
-{
-    bytes[at] as u64
-}
-
-// Four bytes from a place on.
-fn half(bytes: &[u8], at: usize) -> u64
-    requires { at + 4 ≤ length bytes.now }
-    ensures { (result < 4294967296) × (result ≡ little_endian (take 4 (drop at bytes.now))) }
-{
-    let a = byte(bytes, at);
-    let b = byte(bytes, at + 1);
-    let c = byte(bytes, at + 2);
-    let d = byte(bytes, at + 3);
-    a + 256 * (b + 256 * (c + 256 * d))
-}
-
 // Word i, whose bytes are there.
 pub fn word(bytes: &[u8], i: usize) -> u64
     requires { 8 * i + 8 ≤ length bytes.now }
     ensures { result ≡ word_of (words_of bytes.now) i }
 {
     let at = 8 * i;
-    let low = half(bytes, at);
-    let high = half(bytes, at + 4);
-    low + 4294967296 * high
+    let mut eight = [0; 8];
+    eight.copy_from_slice(&bytes[at..at + 8]);
+    u64::from_le_bytes(eight)
 }
 
 // The first word of each body, and the place behind the last.

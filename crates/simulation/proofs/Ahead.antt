@@ -4,18 +4,14 @@ use mathlib.Core.Bool.{Bool, true, false, ◌&&◌}
 use mathlib.Core.List.{List, [], ◌∷◌}
 use mathlib.Core.Option.{Option, some, none}
 use Prim.Native.Nat.{ℕ, ◌≤◌}
-use native.Mathlib.Nat.{le_trans}
 use native.Mathlib.Omega.{arith}
-use lib.Dec.{T, leb, eqb, eqb→eq, leb→le}
-use lib.ListN.{length, take, length-take}
+use lib.Dec.{T, leb, eqb, eqb→eq}
+use lib.ListN.{length, take}
 use lib.Ieee.{Float}
-use borrow.Author.Tests.{le-leb}
 use Rattle.limits.specs.Limits.{states, most_events, most_samples}
 use Rattle.binary64.specs.Doubles.{nonnegative}
 use Rattle.binary64.specs.Lists.{all, amounts_pass}
-use Rattle.refusal.specs.Numbers.{refusal_number, result_of}
-use Rattle.refusal.specs.declared.Reply.{Reply}
-use Rattle.refusal.specs.declared.Reply.TheVariants as Y
+use Rattle.refusal.specs.Numbers.{refusal_number}
 use Rattle.refusal.specs.declared.Refusal.{Refusal}
 use Rattle.refusal.specs.Result as R
 use Rattle.linear_pk.specs.declared.kernel.LinearPk.{LinearPk}
@@ -56,9 +52,6 @@ pub bound_front : (n : ℕ) (x : List Float) → n ≤ states → length x ≡ n
 bound_front n x h e = ap (λ (j : ℕ). take j (padded states x)) (sym e) ∙ padded_front states x (omega arith)
 
 -- ---- test by test
-take-most : {A : Type 0} (n : ℕ) (xs : List A) → length (take n xs) ≤ n
-take-most n xs = omega (arith, length-take n xs)
-
 not_done : {A : Type 0} {b : BoundLinearPk} {c : ℕ} → R.done b ≡ R.refused c → A
 not_done q = absurd (no q)
   where
@@ -124,59 +117,44 @@ bind_takes k x = on (volumes_pass k) refl
     on true g q = rates (matrix_finite k) g refl q
     on false g q = not_done q
 
--- beside the code's reply
-pub bound_takes : (k : LinearPk) (x : List Float) {r : Reply} {b : BoundLinearPk} → r ≡ Y.Done → result_of r b ≡ bind k x → Taken k x b
-bound_takes k x {r} {b} d e = bind_takes k x (sym (ap (λ (i : Reply). result_of i b) d) ∙ e)
-
-module _ (k : LinearPk) (a : List Float) (w : Window) (es : List Event) (count : ℕ) (ss : List Float) (cells : Room) where
+module _ (k : LinearPk) (a : List Float) (w : Window) (es : List Event) (ss : List Float) (cells : Room) where
   -- the tests behind 3, and those behind 5
   abbrev pub behind_three : List (Option ℕ)
-  behind_three = prepare (state_count k) w ss (take count es) ∷ unless (room_for (reckoned ss (take count es)) (state_count k) cells) 4 ∷ []
+  behind_three = prepare (state_count k) w ss es ∷ unless (room_for (reckoned ss es) (state_count k) cells) 4 ∷ []
 
   abbrev pub behind_five : List (Option ℕ)
   behind_five = own_number (sound k) ∷ unless (amounts_pass (state_count k) a) 3 ∷ behind_three
 
-  pub over-count : leb count most_events ≡ false → simulate_entry k a w es count ss cells ≡ R.refused 5
+  entry : simulate_entry k a w es ss cells ≡ simulate (propagator_of k) (own_number (sound k)) (state_count k) w ss es a cells
   unfolding simulate_entry
-  over-count h = rw h
+  entry = refl
 
-  in_count : leb count most_events ≡ true → simulate_entry k a w es count ss cells
-      ≡ simulate (propagator_of k) (own_number (sound k)) (state_count k) w ss (take count es) a cells
-  unfolding simulate_entry
-  in_count h = rw h
-
-  pub over-samples : leb count most_events ≡ true → leb (length ss) most_samples ≡ false → simulate_entry k a w es count ss cells ≡ R.refused 5
+  pub over-limit : leb (length es) most_events && leb (length ss) most_samples ≡ false → simulate_entry k a w es ss cells ≡ R.refused 5
   unfolding first_refusal
-  over-samples h g =
-      in_count h
-      ∙ simulate-refuses (propagator_of k) (own_number (sound k)) (state_count k) w ss (take count es) a cells 5
-      (ap (λ (b : Bool). first_of (unless (leb (length (take count es)) most_events && b) 5 ∷ behind_five)) g
-      ∙ on (leb (length (take count es)) most_events) behind_five)
-    where
-      on : (b : Bool) (os : List (Option ℕ)) → first_of (unless (b && false) 5 ∷ os) ≡ some 5
-      on true os = refl
-      on false os = refl
+  over-limit h =
+      entry ∙ simulate-refuses (propagator_of k) (own_number (sound k)) (state_count k) w ss es a cells 5
+      (ap (λ (b : Bool). first_of (unless b 5 ∷ behind_five)) h)
 
-  module _ (h : leb count most_events ≡ true) (g : leb (length ss) most_samples ≡ true) where
-    behind-five : first_refusal (own_number (sound k)) (state_count k) w ss (take count es) a cells
+  module _ (h : leb (length es) most_events ≡ true) (g : leb (length ss) most_samples ≡ true) where
+    behind-five : first_refusal (own_number (sound k)) (state_count k) w ss es a cells
         ≡ first_of behind_five
     unfolding first_refusal
-    behind-five = rw (le-leb (length (take count es)) most_events (le_trans (take-most count es) (leb→le count most_events (subst T (sym h) tt))), g)
+    behind-five = rw (h, g)
 
-    pub bind-refused : (c : ℕ) → bind k a ≡ R.refused c → simulate_entry k a w es count ss cells ≡ R.refused c
+    pub bind-refused : (c : ℕ) → bind k a ≡ R.refused c → simulate_entry k a w es ss cells ≡ R.refused c
     bind-refused c e =
-        in_count h ∙ simulate-refuses (propagator_of k) (own_number (sound k)) (state_count k) w ss (take count es) a cells c
+        entry ∙ simulate-refuses (propagator_of k) (own_number (sound k)) (state_count k) w ss es a cells c
         (behind-five ∙ bind-refuses k a behind_three e)
 
     module _ {b : BoundLinearPk} (t : Taken k a b) where
-      behind-three : first_refusal (own_number (sound k)) (state_count k) w ss (take count es) a cells
+      behind-three : first_refusal (own_number (sound k)) (state_count k) w ss es a cells
           ≡ first_of behind_three
       behind-three = behind-five ∙ rw (t.own, t.amounts)
 
       pub tests_refuse : (c : ℕ) → 1 ≤ c → c ≡ option_number (first_of behind_three)
-          → simulate_entry k a w es count ss cells ≡ R.refused c
+          → simulate_entry k a w es ss cells ≡ R.refused c
       tests_refuse c l e =
-          in_count h ∙ simulate-refuses (propagator_of k) (own_number (sound k)) (state_count k) w ss (take count es) a cells c (behind-three ∙ on _ l e)
+          entry ∙ simulate-refuses (propagator_of k) (own_number (sound k)) (state_count k) w ss es a cells c (behind-three ∙ on _ l e)
         where
           on : (o : Option ℕ) {c : ℕ} → 1 ≤ c → c ≡ option_number o → o ≡ some c
           on none l e = absurd (no l e)
@@ -186,10 +164,10 @@ module _ (k : LinearPk) (a : List Float) (w : Window) (es : List Event) (count :
           on (some j) l e = ap some (sym e)
 
       pub tests_pass : 0 ≡ option_number (first_of behind_three)
-          → first_refusal (own_number (sound k)) (state_count k) w ss (take count es) a cells ≡ none
+          → first_refusal (own_number (sound k)) (state_count k) w ss es a cells ≡ none
       tests_pass e =
-          behind-three ∙ on (prepare (state_count k) w ss (take count es)) (room_for (reckoned ss (take count es)) (state_count k) cells)
-          (prepare-passes (state_count k) w ss (take count es)) e
+          behind-three ∙ on (prepare (state_count k) w ss es) (room_for (reckoned ss es) (state_count k) cells)
+          (prepare-passes (state_count k) w ss es) e
         where
           on : (o : Option ℕ) (r : Bool) → (0 ≡ option_number o → o ≡ none) → 0 ≡ option_number (first_of (o ∷ unless r 4 ∷ []))
               → first_of (o ∷ unless r 4 ∷ []) ≡ none
@@ -201,8 +179,8 @@ module _ (k : LinearPk) (a : List Float) (w : Window) (es : List Event) (count :
           on (some j) r f q = f q
 
       pub runs : 0 ≡ option_number (first_of behind_three)
-          → simulate_entry k a w es count ss cells ≡ R.done (run_of (propagator_of k) (state_count k) w ss (take count es) a)
-      runs e = in_count h ∙ simulate_runs (propagator_of k) (own_number (sound k)) (state_count k) w ss (take count es) a cells (tests_pass e)
+          → simulate_entry k a w es ss cells ≡ R.done (run_of (propagator_of k) (state_count k) w ss es a)
+      runs e = entry ∙ simulate_runs (propagator_of k) (own_number (sound k)) (state_count k) w ss es a cells (tests_pass e)
 
       -- the amounts that it is given
       pub initial_front : state_count k ≤ states → take (state_count k) b.initial ≡ a
@@ -211,13 +189,13 @@ module _ (k : LinearPk) (a : List Float) (w : Window) (es : List Event) (count :
           ∙ bound_front (state_count k) a l (eqb→eq (length a) (state_count k) (both (eqb (length a) (state_count k)) (all nonnegative a)
           (subst T (sym t.amounts) tt)).0)
 
-      -- of n states and the packed events, as the code has them
-      module _ {c n : ℕ} {xs : List Event} (m : n ≡ state_count k) (p : xs ≡ take count es)
+      -- of n states and the events, as the code has them
+      module _ {c n : ℕ} {xs : List Event} (m : n ≡ state_count k) (p : xs ≡ es)
           (e : c ≡ option_number (first_of (prepare n w ss xs ∷ unless (room_for (reckoned ss xs) n cells) 4 ∷ []))) where
         told : c ≡ option_number (first_of behind_three)
         told = e ∙ ap₂ (λ (i : ℕ) (ys : List Event). option_number (first_of (prepare i w ss ys ∷ unless (room_for (reckoned ss ys) i cells) 4 ∷ []))) m p
 
-        pub code_refuses : (f : Refusal) → c ≡ refusal_number f → simulate_entry k a w es count ss cells ≡ R.refused (refusal_number f)
+        pub code_refuses : (f : Refusal) → c ≡ refusal_number f → simulate_entry k a w es ss cells ≡ R.refused (refusal_number f)
         code_refuses f d = tests_refuse (refusal_number f) (refusal-number f) (sym d ∙ told)
 
         module _ (d : c ≡ 0) (s : n ≤ states) where
@@ -235,17 +213,17 @@ module _ (k : LinearPk) (a : List Float) (w : Window) (es : List Event) (count :
           abbrev code_run : R.Result Outcome
           code_run = R.done (run_of (propagator_of k) (state_count k) w ss xs (take (state_count k) b.initial))
 
-          same-run : code_run ≡ simulate_entry k a w es count ss cells
+          same-run : code_run ≡ simulate_entry k a w es ss cells
           same-run = ap₂ (λ (ys : List Event) (x : List Float). R.done (run_of (propagator_of k) (state_count k) w ss ys x)) p front ∙ sym (runs passed)
 
           pub code_runs : (times : List Float) (sides : List ℕ) (values : List Float) {o : E.RunReport} {ts : List Float} {ds : List ℕ} {vs : List Float}
               → (o ≡ report_of code_run)
               × ((ts ≡ times_at_exit (reckoned ss xs) code_run times)
               × ((ds ≡ sides_at_exit (reckoned ss xs) code_run sides) × (vs ≡ values_at_exit (reckoned ss xs) (state_count k) code_run values)))
-              → (o ≡ report_of (simulate_entry k a w es count ss cells))
-              × ((ts ≡ times_at_exit (reckoned ss (take count es)) (simulate_entry k a w es count ss cells) times)
-              × ((ds ≡ sides_at_exit (reckoned ss (take count es)) (simulate_entry k a w es count ss cells) sides)
-              × (vs ≡ values_at_exit (reckoned ss (take count es)) (state_count k) (simulate_entry k a w es count ss cells) values)))
+              → (o ≡ report_of (simulate_entry k a w es ss cells))
+              × ((ts ≡ times_at_exit (reckoned ss es) (simulate_entry k a w es ss cells) times)
+              × ((ds ≡ sides_at_exit (reckoned ss es) (simulate_entry k a w es ss cells) sides)
+              × (vs ≡ values_at_exit (reckoned ss es) (state_count k) (simulate_entry k a w es ss cells) values)))
           code_runs times sides values z =
               let i = ap (reckoned ss) p in (
                 z.0 ∙ ap report_of same-run,

@@ -17,13 +17,12 @@ use Rattle.binary64.proofs.Sorted.{All}
 use Rattle.binary64.specs.Sort.{firsts}
 use Rattle.protocol.specs.declared.Event.{Event}
 use Rattle.protocol.specs.declared.Window.{Window}
-use Rattle.protocol.specs.Events.{time}
 use Rattle.protocol.specs.Prepare.{reckoned, prepare}
 use Rattle.refusal.specs.Result.{Result, done, and_then, unless}
 use Rattle.refusal.specs.Numbers.{reply_number}
 use Rattle.refusal.specs.declared.Refusal.{Refusal}
-use Rattle.refusal.specs.declared.Reply.{Reply as Answer}
-use Rattle.refusal.specs.declared.Reply.TheVariants.{Done, Refused}
+use Rattle.refusal.specs.Numbers.{Reply as Answer}
+use Rattle.std.specs.Prelude.{Ok, Err}
 use Rattle.linear_pk.specs.declared.kernel.LinearPk.{LinearPk}
 use Rattle.linear_pk.specs.LinearPk.{state_count, volumes_pass, matrix_finite, sound}
 use Rattle.protocol.specs.Execute.{Row, Outcome, go, stop, run, begin, run_of}
@@ -197,7 +196,7 @@ module _ (k : LinearPk) (initial : List Float) (w : Window) (ss : List Float) (e
           on (go z) = refl
           on (stop c u z) = refl
 
-      pub reached_exit : p.reply ≡ Done
+      pub reached_exit : p.reply ≡ Ok tt
           → (ts' ≡ times_at_exit (reckoned ss es) (done outcome) times) × (ds' ≡ sides_at_exit (reckoned ss es) (done outcome) sides)
           × (vs' ≡ values_at_exit (reckoned ss es) (state_count k) (done outcome) values)
       reached_exit e =
@@ -207,12 +206,12 @@ module _ (k : LinearPk) (initial : List Float) (w : Window) (ss : List Float) (e
             values_are ∙ sym (exit_reached plus_zero (λ (x : Row). x.amounts) (reckoned ss es * state_count k) outcome values g),
           )
 
-      pub stopped-reply : (x : Refusal) → p.reply ≡ Refused x → run_reply (Stopped x p.time p.made) ≡ report_of (done outcome)
+      pub stopped-reply : (x : Refusal) → p.reply ≡ Err x → run_reply (Stopped x p.time p.made) ≡ report_of (done outcome)
       stopped-reply x e =
           ap (λ (y : Answer). record { number = reply_number y; time = p.time; rows = cond (is_refused y) 0 p.rows; advances = p.made })
           (sym e) ∙ whole-reply
 
-      pub reached-reply : p.reply ≡ Done → run_reply (Reached p.rows p.made) ≡ report_of (done outcome)
+      pub reached-reply : p.reply ≡ Ok tt → run_reply (Reached p.rows p.made) ≡ report_of (done outcome)
       reached-reply e = on outcome whole-reply (sym stops_as ∙ ap is_refused e)
         where
           on : (o : Outcome) → progress_reply p ≡ report_of (done o) → is_stop o ≡ false → run_reply (Reached p.rows p.made) ≡ report_of (done o)
@@ -241,7 +240,7 @@ module _ (k : LinearPk) (initial : List Float) (w : Window) (ss : List Float) (e
                 ∙ laid_length plus_zero (reckoned ss es * state_count k) [] values zero-le whole_room.values,
           )
 
-      pub stopped_exit : (x : Refusal) → p.reply ≡ Refused x → {ts'' : List Float} {ds'' : List ℕ} {vs'' : List Float}
+      pub stopped_exit : (x : Refusal) → p.reply ≡ Err x → {ts'' : List Float} {ds'' : List ℕ} {vs'' : List Float}
           → ts'' ≡ front_then_zeros plus_zero (reckoned ss es) [] ts' → ds'' ≡ front_then_zeros 0 (reckoned ss es) [] ds'
           → vs'' ≡ front_then_zeros plus_zero (reckoned ss es * state_count k) [] vs'
           → (ts'' ≡ times_at_exit (reckoned ss es) (done outcome) times) × (ds'' ≡ sides_at_exit (reckoned ss es) (done outcome) sides)
@@ -301,7 +300,7 @@ module _ (k : LinearPk) (initial : List Float) (w : Window) (ss : List Float) (e
             subst (λ (j : ℕ). RoomForRows j rows (cells ts' ds' vs')) (sym m)
             (subst (λ (i : ℕ). RoomForRows (state_count k) i (cells ts' ds' vs')) (sym q) (left-room times_cleared sides_cleared values_cleared prepared ran))
 
-        pub reached : p.reply ≡ Done
+        pub reached : p.reply ≡ Ok tt
             → (run_reply (Reached p.rows p.made) ≡ report_of whole)
             × ((ts' ≡ times_at_exit (reckoned ss es) whole times)
             × ((ds' ≡ sides_at_exit (reckoned ss es) whole sides) × (vs' ≡ values_at_exit (reckoned ss es) (state_count k) whole values)))
@@ -326,7 +325,7 @@ module _ (k : LinearPk) (initial : List Float) (w : Window) (ss : List Float) (e
           pub same_again : (length ts'' ≡ length times) × (length ds'' ≡ length sides) × (length vs'' ≡ length values)
           same_again = stopped-same times_cleared sides_cleared values_cleared prepared ran times_again sides_again values_again
 
-          pub stopped : (r : Refusal) → p.reply ≡ Refused r
+          pub stopped : (r : Refusal) → p.reply ≡ Err r
               → (run_reply (Stopped r p.time p.made) ≡ report_of whole)
               × ((ts'' ≡ times_at_exit (reckoned ss es) whole times)
               × ((ds'' ≡ sides_at_exit (reckoned ss es) whole sides) × (vs'' ≡ values_at_exit (reckoned ss es) (state_count k) whole values)))

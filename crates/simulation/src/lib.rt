@@ -7,7 +7,6 @@ ghost use Rattle.limits.specs.Limits.{states};
 ghost use Rattle.binary64.specs.Doubles.{plus_zero};
 ghost use Rattle.refusal.specs.Result.{done};
 ghost use Rattle.linear_pk.specs.LinearPk.{state_count, sound};
-ghost use Rattle.events.specs.Packed.{packed};
 ghost use Rattle.protocol.specs.Prepare.{reckoned};
 ghost use Rattle.protocol.specs.Execute.{run_of};
 ghost use Rattle.protocol.specs.Entry.{first_refusal, report_of, front_then_zeros, times_at_exit, sides_at_exit, values_at_exit};
@@ -17,11 +16,10 @@ ghost use Rattle.simulation_report.specs.Replies.{room, run_reply};
 ghost use Rattle.simulation.specs.KernelRun.{propagator_of};
 ghost use Rattle.simulation.specs.Entries.{simulate_entry};
 
-use events::{Reals, Words};
-use limits::{BOUNDARIES, EVENTS, SAMPLES, STATES};
+use limits::{EVENTS, SAMPLES, STATES};
 use linear_pk::LinearPk;
 use protocol::{Event, Window};
-use refusal::{Refusal, Reply};
+use refusal::Refusal;
 use simulation_report::RunReply;
 
 // Zeros over the reckoned rows, of n amounts each.
@@ -31,9 +29,9 @@ fn clear(times: &mut [f64], sides: &mut [u8], values: &mut [f64], rows: usize, n
         × (sides.new ≡ front_then_zeros 0 rows [] sides.old)
         × (values.new ≡ front_then_zeros plus_zero (rows * n) [] values.old) }
 {
-    rows::clear_reals(times, rows);
-    rows::clear_sides(sides, rows);
-    rows::clear_reals(values, rows * n);
+    times[..rows].fill(0.0);
+    sides[..rows].fill(0);
+    values[..rows * n].fill(0.0);
 }
 
 // The run that no test ahead refuses: its rows over zeros, and zeros alone where it stops.
@@ -41,53 +39,37 @@ pub fn run_prepared(
     kernel: LinearPk,
     initial: [f64; STATES],
     window: Window,
-    reals: &Reals,
-    words: &Words,
-    count: usize,
+    events: &[Event],
     samples: &[f64],
     times: &mut [f64],
     sides: &mut [u8],
     values: &mut [f64],
 ) -> RunReply
-    requires { first_refusal (own_number (sound kernel)) (state_count kernel) window samples.now (packed reals.now words.now count)
+    requires { first_refusal (own_number (sound kernel)) (state_count kernel) window samples.now events.now
         (take (state_count kernel) initial)
         (room (length times.old) (length sides.old) (length values.old)) ≡ none }
     ensures result_value { run_reply result ≡ report_of (done (run_of (propagator_of kernel) (state_count kernel) window samples.now
-        (packed reals.now words.now count) (take (state_count kernel) initial))) }
-    ensures times_after { times.new ≡ times_at_exit (reckoned samples.now (packed reals.now words.now count))
+        events.now (take (state_count kernel) initial))) }
+    ensures times_after { times.new ≡ times_at_exit (reckoned samples.now events.now)
         (done (run_of (propagator_of kernel) (state_count kernel) window samples.now
-        (packed reals.now words.now count) (take (state_count kernel) initial))) times.old }
-    ensures sides_after { sides.new ≡ sides_at_exit (reckoned samples.now (packed reals.now words.now count))
+        events.now (take (state_count kernel) initial))) times.old }
+    ensures sides_after { sides.new ≡ sides_at_exit (reckoned samples.now events.now)
         (done (run_of (propagator_of kernel) (state_count kernel) window samples.now
-        (packed reals.now words.now count) (take (state_count kernel) initial))) sides.old }
+        events.now (take (state_count kernel) initial))) sides.old }
     ensures values_after { values.new ≡ values_at_exit (reckoned samples.now
-        (packed reals.now words.now count)) (state_count kernel)
+        events.now) (state_count kernel)
         (done (run_of (propagator_of kernel) (state_count kernel) window samples.now
-        (packed reals.now words.now count) (take (state_count kernel) initial))) values.old }
+        events.now (take (state_count kernel) initial))) values.old }
 {
     let n = kernel.state_count();
-    let rows = 4 * count + samples.len() + 2;
+    let rows = 4 * events.len() + samples.len() + 2;
     clear(times, sides, values, rows, n);
-    let mut readings = [0.0f64; SAMPLES];
-    let mut bounds = [0.0f64; BOUNDARIES];
     let p = simulation_matrix::on_schedule(
-        kernel,
-        n,
-        initial,
-        window,
-        reals,
-        words,
-        count,
-        samples,
-        &mut readings,
-        &mut bounds,
-        times,
-        sides,
-        values,
+        kernel, n, initial, window, events, samples, times, sides, values,
     );
     let reply = p.reply;
     match reply {
-        Reply::Refused(refusal) => {
+        Err(refusal) => {
             clear(times, sides, values, rows, n);
             RunReply::Stopped {
                 refusal,
@@ -95,73 +77,58 @@ pub fn run_prepared(
                 advances: p.made,
             }
         }
-        Reply::Done => RunReply::Reached {
+        Ok(()) => RunReply::Reached {
             rows: p.rows,
             advances: p.made,
         },
     }
 }
 
-// A run of the first count events from the amounts: 5, 1, 2, 3, the preparation, 4, then the run.
+// A run of the events from the amounts: 5, 1, 2, 3, the preparation, 4, then the run.
 pub fn simulate(
     kernel: LinearPk,
     amounts: &[f64],
     window: Window,
-    events: [Event; EVENTS],
-    count: usize,
+    events: &[Event],
     samples: &[f64],
     times: &mut [f64],
     sides: &mut [u8],
     values: &mut [f64],
 ) -> RunReply
-    ensures result_value { run_reply result ≡ report_of (simulate_entry kernel amounts.now window events count samples.now
+    ensures result_value { run_reply result ≡ report_of (simulate_entry kernel amounts.now window events.now samples.now
         (room (length times.old) (length sides.old) (length values.old))) }
-    ensures times_after { times.new ≡ times_at_exit (reckoned samples.now (take count events))
-        (simulate_entry kernel amounts.now window events count samples.now
+    ensures times_after { times.new ≡ times_at_exit (reckoned samples.now events.now)
+        (simulate_entry kernel amounts.now window events.now samples.now
         (room (length times.old) (length sides.old) (length values.old))) times.old }
-    ensures sides_after { sides.new ≡ sides_at_exit (reckoned samples.now (take count events))
-        (simulate_entry kernel amounts.now window events count samples.now
+    ensures sides_after { sides.new ≡ sides_at_exit (reckoned samples.now events.now)
+        (simulate_entry kernel amounts.now window events.now samples.now
         (room (length times.old) (length sides.old) (length values.old))) sides.old }
-    ensures values_after { values.new ≡ values_at_exit (reckoned samples.now (take count events)) (state_count kernel)
-        (simulate_entry kernel amounts.now window events count samples.now
+    ensures values_after { values.new ≡ values_at_exit (reckoned samples.now events.now) (state_count kernel)
+        (simulate_entry kernel amounts.now window events.now samples.now
         (room (length times.old) (length sides.old) (length values.old))) values.old }
 {
-    if count > EVENTS {
+    if events.len() > EVENTS || samples.len() > SAMPLES {
         return RunReply::Refused(Refusal::Limit);
     }
-    if samples.len() > SAMPLES {
-        return RunReply::Refused(Refusal::Limit);
-    }
-    let made = kernel.bind(amounts);
-    let bound = made.reply;
-    match bound {
-        Reply::Refused(refusal) => RunReply::Refused(refusal),
-        Reply::Done => {
-            let real = [0.0f64; 3];
-            let mut reals = [real; EVENTS];
-            let word = [0usize; 4];
-            let mut words = [word; EVENTS];
-            events_packing::pack(events, count, &mut reals, &mut words);
+    match kernel.bind(amounts) {
+        Err(refusal) => RunReply::Refused(refusal),
+        Ok(start) => {
             let n = kernel.state_count();
             let reply = preparation::admission::admitted(
                 n,
                 window,
                 samples,
-                &reals,
-                &words,
-                count,
+                events,
                 times.len(),
                 sides.len(),
                 values.len(),
             );
             match reply {
-                Reply::Refused(refusal) => RunReply::Refused(refusal),
-                Reply::Done => {
-                    let start = made.bound;
+                Err(refusal) => RunReply::Refused(refusal),
+                Ok(()) => {
                     let initial = start.initial;
                     run_prepared(
-                        kernel, initial, window, &reals, &words, count, samples, times, sides,
-                        values,
+                        kernel, initial, window, events, samples, times, sides, values,
                     )
                 }
             }

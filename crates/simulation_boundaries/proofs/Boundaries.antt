@@ -7,6 +7,7 @@ use native.Mathlib.Numerals.{add-one}
 use native.Mathlib.Omega.{arith}
 use lib.ListN.{length, get_or, drop, take, replicate}
 use lib.Seq.{drop-cons}
+use Rattle.std.proofs.lemmas.List.{take-replicate}
 use lib.Ieee.{Float, nan}
 use Rattle.limits.specs.Limits.{most_events}
 use Rattle.protocol.specs.Schedule.{Step, summed, marked, at_boundary, on_interval, following, from_first}
@@ -155,14 +156,6 @@ module _ (advance : Propagator) (n : ℕ) (es : List Event) (ss bs : List Float)
             pub code_going : is_refused u.reply ≡ false → Going ns u e (b + 1)
             code_going s = next_going o as_interval m s
 
-take-replicate : {A : Type 0} (k m : ℕ) (a : A) → k ≤ m → take k (replicate m a) ≡ replicate k a
-take-replicate zero m a h = refl
-take-replicate (suc k) zero a h = absurd (no h)
-  where
-    no : suc k ≤ 0 → ⊥
-    no h = omega arith
-take-replicate (suc k) (suc m) a h = ap (◌∷◌ a) (take-replicate k m a (omega arith))
-
 -- no event is marked
-pub marks_none : (es : List Event) (count : ℕ) → length es ≡ count → count ≤ most_events → take count (replicate most_events false) ≡ replicate (length es) false
-marks_none es count e h = take-replicate count most_events false h ∙ ap (λ (k : ℕ). replicate k false) (sym e)
+pub marks_none : (es : List Event) → length es ≤ most_events → take (length es) (replicate most_events false) ≡ replicate (length es) false
+marks_none es h = take-replicate (length es) most_events false h

@@ -3,23 +3,20 @@
 
 ghost use Rattle.std.specs.Prelude.{◌≤◌, length};
 ghost use Rattle.limits.specs.Limits.{most_events};
-ghost use Rattle.events.specs.Packed.{packed};
 ghost use Rattle.protocol.specs.Schedule.{from_first};
 ghost use Rattle.rows.specs.Written.{cells};
 ghost use Rattle.rows.specs.Standing.{Ran, Fits, kernel_advance};
 
-use events::{Reals, Words};
 use limits::EVENTS;
 use linear_pk::LinearPk;
+use protocol::Event;
 use rows::Progress;
 
 // From the first boundary to the last, or to the first step that refuses.
 pub fn over_boundaries(
     kernel: LinearPk,
     n: usize,
-    reals: &Reals,
-    words: &Words,
-    count: usize,
+    events: &[Event],
     bounds: &[f64],
     samples: &[f64],
     start: Progress,
@@ -27,25 +24,26 @@ pub fn over_boundaries(
     sides: &mut [u8],
     values: &mut [f64],
 ) -> Progress
-    requires { (count ≤ most_events) × (1 ≤ length bounds.now)
-        × Fits n start (from_first n (packed reals.now words.now count) samples.now bounds.now)
+    requires { (length events.now ≤ most_events) × (1 ≤ length bounds.now)
+        × Fits n start (from_first n events.now samples.now bounds.now)
         (cells times.old sides.old values.old) }
-    ensures { Ran (kernel_advance kernel n) n start (from_first n (packed reals.now words.now count)
+    ensures { Ran (kernel_advance kernel n) n start (from_first n events.now
         samples.now bounds.now)
         (cells times.old sides.old values.old) result (cells times.new sides.new values.new) }
 {
     let last = bounds.len() - 1;
-    let mut marks = [false; EVENTS];
+    let mut unmarked = [false; EVENTS];
+    let marks = &mut unmarked[..events.len()];
     let mut p = start.resumed();
-    let mut b = 0usize;
-    while b < last {
+    // By index: a boundary and the one behind it, with the last block outside the loop, are no plainer as windows.
+    for b in 0..last {
         let t = bounds[b];
-        let q = rows_boundary::at_boundary(reals, words, count, n, t, p, times, sides, values);
+        let q = rows_boundary::at_boundary(events, n, t, p, times, sides, values);
         if q.stopped() {
             return q;
         }
-        events_at::marks::mark(reals, words, count, t, &mut marks);
-        let rates = events_at::rates::summed_rates(reals, words, count, n, t, &marks);
+        events_at::marks::mark(events, t, marks);
+        let rates = events_at::rates::summed_rates(events, n, t, marks);
         let u = bounds[b + 1];
         let s = rows_interval::on_interval(
             kernel, n, t, rates, u, samples, q, times, sides, values,
@@ -54,8 +52,7 @@ pub fn over_boundaries(
             return s;
         }
         p = s;
-        b += 1;
     }
     let end = bounds[last];
-    rows_boundary::at_boundary(reals, words, count, n, end, p, times, sides, values)
+    rows_boundary::at_boundary(events, n, end, p, times, sides, values)
 }

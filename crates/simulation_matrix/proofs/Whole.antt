@@ -1,5 +1,5 @@
 -- The whole schedule: its times are doubles, and it has room in the reckoned rows.
-use mathlib.Core.Path.{◌≡◌, refl, ap, ◌∙◌}
+use mathlib.Core.Path.{◌≡◌, refl}
 use mathlib.Core.Bool.{Bool, true, false, cond}
 use mathlib.Core.List.{List, [], ◌∷◌, ◌++◌}
 use mathlib.Core.Option.{none}
@@ -7,8 +7,7 @@ use Prim.Native.Nat.{ℕ, ◌*◌, ◌≤◌}
 use native.Mathlib.Nat.{le_refl, mul-le-mul_right}
 use native.Mathlib.Omega.{arith}
 use lib.Dec.{T}
-use lib.ListN.{length, take}
-use lib.Seq.{take_at}
+use lib.ListN.{length}
 use lib.Ieee.{Float, binary64, fits, eq}
 use Rattle.limits.specs.Limits.{states, most_events, most_samples, most_boundaries}
 use Rattle.binary64.specs.Doubles.{total_le}
@@ -45,10 +44,6 @@ prepared_of n w ss es s b p =
     let v = both (fits binary64 w.start) _ b in
     let u = both (fits binary64 w.end) _ v.1 in
     record { start_fits = v.0; end_fits = u.0; samples_fit = s; times_fit = times_of es u.1; passes = p }
-
--- ---- the front of a list
-pub front : {A : Type 0} (xs ys : List A) {zs : List A} → zs ≡ xs ++ ys → take (length xs) zs ≡ xs
-front xs ys e = ap (take (length xs)) e ∙ take_at xs ys (length xs) refl
 
 -- ---- room
 pub some_boundary : (w : Window) (es : List Event) → 1 ≤ length (boundaries w es)

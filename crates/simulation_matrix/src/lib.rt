@@ -1,13 +1,12 @@
 // The analytic run of `simulate_matrix`: the boundaries, the distinct samples, and the run over them.
 #![tactic(auto)]
 
-ghost use Rattle.std.specs.Prelude.{◌≡◌, ◌≤◌, T, length, take};
+ghost use Rattle.std.specs.Prelude.{◌≡◌, ◌≤◌, T, length};
 ghost use Rattle.std.proofs.Math.Option.{none};
 ghost use Rattle.std.specs.Float.{binary64};
 ghost use Rattle.std.specs.Float.Ieee.{fits};
-ghost use Rattle.limits.specs.Limits.{states, most_events, most_samples, most_boundaries};
+ghost use Rattle.limits.specs.Limits.{states, most_events, most_samples};
 ghost use Rattle.binary64.specs.Lists.{all};
-ghost use Rattle.events.specs.Packed.{packed};
 ghost use Rattle.protocol.specs.Events.{sorted_unique};
 ghost use Rattle.protocol.specs.Prepare.{reckoned, prepare as prepareOf};
 ghost use Rattle.protocol.specs.PlainRun.{Prepared};
@@ -16,53 +15,52 @@ ghost use Rattle.rows.specs.Written.{cells, RoomForRows};
 ghost use Rattle.rows.specs.Standing.{Ran, kernel_advance};
 ghost use Rattle.simulation_matrix.specs.Started.{started};
 
-use events::{Reals, Words};
-use limits::STATES;
+use arrayvec::ArrayVec;
+use limits::{SAMPLES, STATES};
 use linear_pk::LinearPk;
-use protocol::Window;
-use refusal::Reply;
+use protocol::{Event, Window};
+use refusal::Refusal;
 use rows::Progress;
 
-// The samples in order and each once, in readings; how many.
-fn distinct(samples: &[f64], readings: &mut [f64]) -> usize
-    requires { length samples.now ≤ length readings.old }
-    ensures { (result ≤ length readings.new) × (take result readings.new ≡ sorted_unique samples.now)
-        × T (all (fits binary64) samples.now) }
+pub type Readings = ArrayVec<f64, SAMPLES>;
+
+// The samples in order and each once.
+fn distinct(samples: &[f64]) -> Readings
+    requires { length samples.now ≤ most_samples }
+    ensures { (result.items ≡ sorted_unique samples.now) × T (all (fits binary64) samples.now) }
 {
-    linear_pk_interval::lay(samples, readings);
-    let given = samples.len();
-    events_times::sorted_unique(&mut readings[..given])
+    let mut readings = Readings::new();
+    for sample in samples {
+        readings.push(*sample);
+    }
+    let kept = events_times::sorted_unique(readings.as_mut_slice());
+    readings.truncate(kept);
+    readings
 }
 
-// The whole schedule, over the distinct samples and the boundaries, which are laid into readings and bounds.
+// The whole schedule, over the distinct samples and the boundaries.
 pub fn on_schedule(
     kernel: LinearPk,
     n: usize,
     initial: [f64; STATES],
     window: Window,
-    reals: &Reals,
-    words: &Words,
-    count: usize,
+    events: &[Event],
     samples: &[f64],
-    readings: &mut [f64],
-    bounds: &mut [f64],
     times: &mut [f64],
     sides: &mut [u8],
     values: &mut [f64],
 ) -> Progress
-    requires { (n ≤ states) × (count ≤ most_events) × (length samples.now ≤ most_samples)
-        × (prepareOf n window samples.now (packed reals.now words.now count) ≡ none)
-        × RoomForRows n (reckoned samples.now (packed reals.now words.now count)) (cells times.old sides.old values.old)
-        × (most_samples ≤ length readings.old) × (most_boundaries ≤ length bounds.old) }
-    ensures { Prepared n window samples.now (packed reals.now words.now count)
-        × Ran (kernel_advance kernel n) n (started initial window.propagations) (schedule n window samples.now
-        (packed reals.now words.now count))
+    requires { (n ≤ states) × (length events.now ≤ most_events) × (length samples.now ≤ most_samples)
+        × (prepareOf n window samples.now events.now ≡ none)
+        × RoomForRows n (reckoned samples.now events.now) (cells times.old sides.old values.old) }
+    ensures { Prepared n window samples.now events.now
+        × Ran (kernel_advance kernel n) n (started initial window.propagations) (schedule n window samples.now events.now)
         (cells times.old sides.old values.old) result (cells times.new sides.new values.new) }
 {
-    let read = distinct(samples, readings);
-    let reached = events_boundaries::boundaries(window, reals, words, count, bounds);
+    let readings = distinct(samples);
+    let bounds = events_boundaries::boundaries(window, events);
     let start = Progress {
-        reply: Reply::Done,
+        reply: Ok(()),
         time: 0.0,
         amounts: initial,
         left: window.propagations,
@@ -72,11 +70,9 @@ pub fn on_schedule(
     simulation_boundaries::over_boundaries(
         kernel,
         n,
-        reals,
-        words,
-        count,
-        &bounds[..reached],
-        &readings[..read],
+        events,
+        bounds.as_slice(),
+        readings.as_slice(),
         start,
         times,
         sides,

@@ -4,7 +4,7 @@
 ghost use Rattle.std.specs.Prelude.{◌≡◌};
 ghost use Rattle.simulation_report.specs.Replies.{run_reply, reported};
 
-use refusal::{Refusal, Reply};
+use refusal::Refusal;
 
 // What a run replies.
 #[derive(Clone, Copy)]
@@ -38,7 +38,7 @@ pub fn report_of(reply: RunReply) -> Report
 {
     match reply {
         RunReply::Refused(refusal) => Report {
-            number: refusal::number(Reply::Refused(refusal)),
+            number: refusal::number(Err(refusal)),
             time: 0.0,
             rows: 0,
             advances: 0,
@@ -48,7 +48,7 @@ pub fn report_of(reply: RunReply) -> Report
             time,
             advances,
         } => {
-            let number = refusal::number(Reply::Refused(refusal));
+            let number = refusal::number(Err(refusal));
             Report {
                 number,
                 time,

@@ -1,4 +1,5 @@
 -- Closed cycles over 0 to 1 with a bolus at 0, from parameters through `new`, computed. The bits are those of the Rust; a double is m·2^e with m odd.
+use Rattle.std.specs.Prelude.{None}
 use mathlib.Core.Path.{◌≡◌, refl}
 use mathlib.Core.Bool.{true, false}
 use mathlib.Core.List.{List, [], ◌∷◌}
@@ -7,7 +8,6 @@ use lib.IntN.{pos, negsuc}
 use lib.Ieee.{Float, fin}
 use Rattle.binary64.specs.Doubles.{plus_zero, one}
 use Rattle.linear_pk.specs.LinearPk.{new}
-use Rattle.linear_pk_values.specs.declared.Absorption.TheVariants.{Absent}
 use Rattle.protocol.specs.declared.Event.{Event}
 use Rattle.protocol.specs.declared.Event.TheVariants.{Bolus}
 use Rattle.cycle.specs.Closed.{Timed, stopped, got, SteadyState}
@@ -26,7 +26,7 @@ unfolding opened
 one_state = refl
 
 -- CL 1, V 1 and 2, q 1
-two-states : closed_by (new one (one ∷ two ∷ []) (one ∷ []) Absent) (dosed one)
+two-states : closed_by (new one (one ∷ two ∷ []) (one ∷ []) None) (dosed one)
     ≡ solved (fin false 0x14_ed7e_462d_db35 (negsuc 52) ∷ fin false 0x1e_c7c9_f4c0_a4b5 (negsuc 51) ∷ [])
     (fin true 1 (negsuc 52) ∷ fin true 1 (negsuc 51) ∷ []) (fin false 0x5_78ed_8693_90cd (negsuc 103))
 unfolding opened

@@ -1,5 +1,5 @@
 -- 01, "Bench values": the values that are proved of the definitions, from parameters through `new`.
-use Rattle.std.specs.Prelude.{◌≡◌, true, false, List, [], ◌∷◌, ℕ, ◌^◌, ◌+◌, ◌-◌, pos, negsuc, Float}
+use Rattle.std.specs.Prelude.{◌≡◌, true, false, List, [], ◌∷◌, ℕ, ◌^◌, ◌+◌, ◌-◌, pos, negsuc, Float, Some, None}
 use Rattle.std.proofs.Math.Option.{some, none}
 use Rattle.std.specs.Float.{fin, binary64}
 use Rattle.std.specs.Float.Ieee.{add}
@@ -10,7 +10,6 @@ use Rattle.matrix.specs.Exponential.{scheme}
 use Rattle.linear_pk_interval.specs.Interval.{entry, propagator}
 use Rattle.linear_pk.specs.LinearPk.{new, state_count, advance}
 use Rattle.linear_pk.specs.declared.kernel.LinearPk.{LinearPk}
-use Rattle.linear_pk_values.specs.declared.Absorption.TheVariants.{Absent, FirstOrder}
 use Rattle.protocol.specs.Prepare.{prepare}
 use Rattle.protocol.specs.Execute.{Outcome, go, stop, run_of}
 use Rattle.protocol.specs.declared.Event.{Event}
@@ -54,7 +53,7 @@ matrix_of r = and_then r (λ k. done (table (state_count k) (entry k.matrix)))
 
 -- one volume of 1 and nothing else but a clearance
 abbrev pub single : Float → Result LinearPk
-single clearance = new clearance (one ∷ []) [] Absent
+single clearance = new clearance (one ∷ []) [] None
 
 -- an amount of 3 at the rate 2 in the patient of P2
 abbrev pub after : Float → Result (List Float)
@@ -92,7 +91,7 @@ closed_by r es = then (untimed r) (λ k. closed (propagator_of k) (state_count k
 pub record BenchValues : Type 0 where
   -- CL 2, V 4 and 8, q 1, k 0.5: rows (−0.5, 0, 0), (0.5, −0.75, 0.125), (0, 0.25, −0.125)
   pub p1 :
-      matrix_of (new two (four ∷ eight ∷ []) (one ∷ []) (FirstOrder half))
+      matrix_of (new two (four ∷ eight ∷ []) (one ∷ []) (Some half))
       ≡ done
       ((fin true 1 (negsuc 0) ∷ plus_zero ∷ plus_zero ∷ [])
       ∷ (fin false 1 (negsuc 0) ∷ fin true 3 (negsuc 1) ∷ fin false 1 (negsuc 2) ∷ [])

@@ -2,7 +2,7 @@
 use mathlib.Core.Path.{◌≡◌}
 use Rattle.cycle.specs.ClosedCycle.{TimesFit}
 use Rattle.simulation_report.specs.declared.RunReply.{RunReply}
-use Rattle.periodic_acceptance.specs.declared.SteadyReply.{SteadyReply}
+use Rattle.theorem_runs_and_cycles.specs.PeriodicSteadyState.{SteadyReply}
 use Rattle.simulation.specs.Entries.{run_reply}
 use Rattle.theorem_runs_and_cycles.specs.Simulate as S
 use Rattle.theorem_runs_and_cycles.specs.PeriodicSteadyState as P
@@ -12,7 +12,7 @@ use Rattle.theorem_calls.specs.Claims.{Simulated, Steady}
 pub simulated : {c : S.Call} {r : RunReply} {exit : S.Slices} → S.Contract c r exit → S.TimesFit c → Simulated c r exit
 simulated {c} {r} {exit} q f = record { replied = runs_and_cycles.simulate.replied c r exit q f; passed = runs_and_cycles.simulate.passed c r exit q }
 
-pub steady : {c : P.Call} {r : SteadyReply} {exit : P.Slices} → P.Contract c r exit → TimesFit c.window (P.call_events c) → Steady c r exit
+pub steady : {c : P.Call} {r : SteadyReply} {exit : P.Slices} → P.Contract c r exit → TimesFit c.window c.events → Steady c r exit
 steady {c} {r} {exit} q f = record { replied = runs_and_cycles.periodic_steady_state.replied c r exit q f; unchanged = runs_and_cycles.periodic_steady_state.unchanged c r exit q }
 
 pub same_rows : {c c' : S.Call} (r r' : RunReply) {exit exit' : S.Slices} → S.Contract c r exit → S.Contract c' r' exit' → S.TimesFit c

@@ -3,7 +3,7 @@ use Rattle.std.specs.Prelude.{◌≡◌, ◌<◌, Float}
 use Rattle.protocol.specs.declared.Window.{Window}
 use Rattle.simulation_report.specs.declared.RunReply.{RunReply}
 use Rattle.simulation.specs.Entries.{run_reply}
-use Rattle.periodic_acceptance.specs.declared.SteadyReply.{SteadyReply}
+use Rattle.theorem_runs_and_cycles.specs.PeriodicSteadyState.{SteadyReply}
 use Rattle.periodic_acceptance.specs.Entry.{steady_reply}
 use Rattle.theorem_runs_and_cycles.specs.Simulate as S
 use Rattle.theorem_runs_and_cycles.specs.PeriodicSteadyState as P

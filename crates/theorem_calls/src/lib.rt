@@ -1,8 +1,12 @@
 // Demand 3 stated of the code: what a call of the library's entries, or of the entry that `rig-steady` calls, ensures is the claim. That
-// the times of a call are doubles is given by their type.
+// the times of a call are doubles is given by their types; those of the events are read for it.
 #![tactic(auto)]
 
-ghost use Rattle.std.specs.Prelude.{◌≡◌};
+ghost use Rattle.std.specs.Prelude.{◌≡◌, T};
+ghost use Rattle.std.specs.Float.{binary64};
+ghost use Rattle.std.specs.Float.Ieee.{fits};
+ghost use Rattle.binary64.specs.Lists.{all};
+ghost use Rattle.protocol.specs.Events.{time};
 ghost use Rattle.simulation_report.specs.Replies.{run_reply};
 ghost use Rattle.theorem_runs_and_cycles.specs.Simulate.{SameRows};
 ghost use Rattle.theorem_calls.specs.Claims.{Simulated, Steady, window_between};
@@ -10,20 +14,27 @@ ghost use Rattle.refusal.specs.Numbers.{reply_number};
 ghost use Rattle.theorem_calls.specs.Shown.{Shown};
 
 use cycle::SteadyStateTolerance;
-use limits::EVENTS;
 use linear_pk::LinearPk;
-use periodic_acceptance::SteadyReply;
+use periodic_runs::Stop;
 use printout::PrintReply;
 use protocol::{Event, Window};
 use simulation_report::RunReply;
+
+// The times of the events are doubles: each is read.
+fn read_times(events: &[Event])
+    ensures { T (all (λ e. fits binary64 (time e)) events.now) }
+{
+    for event in events {
+        let _time = event.time();
+    }
+}
 
 // A run of `simulate`.
 fn simulate(
     kernel: LinearPk,
     amounts: &[f64],
     window: Window,
-    events: [Event; EVENTS],
-    count: usize,
+    events: &[Event],
     samples: &[f64],
     times: &mut [f64],
     sides: &mut [u8],
@@ -34,15 +45,15 @@ fn simulate(
           kernel = kernel;
           amounts = amounts.now;
           window = window;
-          events = events;
-          count = count;
+          events = events.now;
           samples = samples.now;
           lent = record { times = times.entry.now; sides = sides.old; values = values.old };
         })
         result (record { times = times.exit.now; sides = sides.new; values = values.new }) }
 {
+    read_times(events);
     simulation::simulate(
-        kernel, amounts, window, events, count, samples, times, sides, values,
+        kernel, amounts, window, events, samples, times, sides, values,
     )
 }
 
@@ -82,8 +93,7 @@ fn simulate_twice(
     amounts: &[f64],
     start: f64,
     end: f64,
-    events: [Event; EVENTS],
-    count: usize,
+    events: &[Event],
     settings: Settings,
     samples: &[f64],
     times: &mut [f64],
@@ -100,8 +110,7 @@ fn simulate_twice(
           kernel = kernel;
           amounts = amounts.now;
           window = window_between start end settings;
-          events = events;
-          count = count;
+          events = events.now;
           samples = samples.now;
           lent = record { times = times.entry.now; sides = sides.old; values = values.old };
         })
@@ -109,20 +118,19 @@ fn simulate_twice(
           kernel = kernel;
           amounts = amounts.now;
           window = window_between start end other_settings;
-          events = events;
-          count = count;
+          events = events.now;
           samples = other_samples.now;
           lent = record { times = other_times.old; sides = other_sides.old; values = other_values.old };
         })
         (record { times = times.exit.now; sides = sides.new; values = values.new })
         (record { times = other_times.new; sides = other_sides.new; values = other_values.new }) }
 {
+    read_times(events);
     let first = simulation::simulate(
         kernel,
         amounts,
         window_of(start, end, settings),
         events,
-        count,
         samples,
         times,
         sides,
@@ -133,7 +141,6 @@ fn simulate_twice(
         amounts,
         window_of(start, end, other_settings),
         events,
-        count,
         other_samples,
         other_times,
         other_sides,
@@ -146,27 +153,26 @@ fn simulate_twice(
 fn periodic_steady_state(
     kernel: LinearPk,
     window: Window,
-    events: [Event; EVENTS],
-    count: usize,
+    events: &[Event],
     samples: &[f64],
     tolerance: SteadyStateTolerance,
     amounts: &mut [f64],
     residual: &mut [f64],
-) -> SteadyReply
+) -> Result<f64, Stop>
     ensures { Steady
         (record {
           kernel = kernel;
           window = window;
-          events = events;
-          count = count;
+          events = events.now;
           samples = samples.now;
           tolerance = tolerance;
           lent = record { amounts = amounts.entry.now; residual = residual.old };
         })
         result (record { amounts = amounts.exit.now; residual = residual.new }) }
 {
+    read_times(events);
     periodic::periodic_steady_state(
-        kernel, window, events, count, samples, tolerance, amounts, residual,
+        kernel, window, events, samples, tolerance, amounts, residual,
     )
 }
 

@@ -21,8 +21,8 @@ use Rattle.cycle.specs.Elimination.{System, least_pivot, eliminate_to, solve_to,
 use Rattle.cycle.specs.Closed.{Timed, stopped, got, last_post, residuals_of, SteadyState, closed, SteadyReport, steady_report_of, answer_at_exit}
 use Rattle.cycle.specs.ClosedCycle.{TimesFit, closed_numbers, CandidateAnswer, ClosedCycle}
 use Rattle.periodic_acceptance.specs.Entry.{steady_entry, steady_reply}
-use Rattle.periodic_acceptance.specs.declared.SteadyReply as P
-use Rattle.theorem_runs_and_cycles.specs.PeriodicSteadyState.{Slices, Call, call_states, call_events, entry_of, Contract, Passed}
+use Rattle.theorem_runs_and_cycles.specs.PeriodicSteadyState as P
+use Rattle.theorem_runs_and_cycles.specs.PeriodicSteadyState.{Slices, Call, call_states, entry_of, Contract, Passed}
 use Rattle.theorem_runs_and_cycles.specs.PeriodicSteadyState.{candidate, YieldsOn, AcceptsOn, RejectsOn, AtAnswer, AtRefusal}
 use Rattle.theorem_runs_and_cycles.specs.PeriodicSteadyState.{Replied, EverySteadyState}
 use Rattle.theorem_runs_and_cycles.proofs.Demand3.{demand_3}
@@ -76,23 +76,23 @@ module _ (c : Call) (r : P.SteadyReply) (exit : Slices) (q : Contract c r exit) 
       on (stopped m t) e = let h = refusal m t e in record { number = refl; time = refl; maximum = h.maximum; slices = h.slices }
       on (got s) e = not_zero l (ap (λ (x : SteadyReport). x.number) (q.reply ∙ ap steady_report_of e))
 
-  module _ (f : TimesFit c.window (call_events c)) (p : Passed c) where
+  module _ (f : TimesFit c.window c.events) (p : Passed c) where
     abbrev whole : Timed SteadyState
-    whole = closed (propagator_of c.kernel) (call_states c) c.window c.samples (call_events c) c.tolerance true
+    whole = closed (propagator_of c.kernel) (call_states c) c.window c.samples c.events c.tolerance true
 
     begins : entry_of c ≡ whole
     unfolding steady_entry
     begins =
         rw (
-          le-leb c.count most_cycle_events p.count,
+          le-leb (length c.events) most_cycle_events p.count,
           le-leb (length c.samples) most_samples p.samples,
           p.kernel,
           le-leb (call_states c) (length c.lent.amounts) p.amounts,
           le-leb (call_states c) (length c.lent.residual) p.residual,
         )
 
-    cycle : ClosedCycle (propagator_of c.kernel) (call_states c) c.window c.samples (call_events c) c.tolerance
-    cycle = demand_3.closed-cycle c.kernel p.kernel c.window c.samples (call_events c) c.tolerance f
+    cycle : ClosedCycle (propagator_of c.kernel) (call_states c) c.window c.samples c.events c.tolerance
+    cycle = demand_3.closed-cycle c.kernel p.kernel c.window c.samples c.events c.tolerance f
 
     -- 0 is the number of an answer
     at_zero : (steady_reply r).number ≡ 0 → (s : SteadyState) × (whole ≡ got s)

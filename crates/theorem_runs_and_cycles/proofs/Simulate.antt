@@ -6,7 +6,6 @@ use mathlib.Core.Bool.{Bool, true, false, cond, ◌&&◌}
 use mathlib.Core.List.{List, [], ◌∷◌}
 use mathlib.Core.Option.{Option, some, none}
 use mathlib.Core.Logic.{◌⊎◌, inl, inr}
-use borrow.Author.Tests.{le-leb}
 use lib.Dec.{T, leb, leb→le, eqb}
 use lib.ListN.{length}
 use lib.Ieee.{Float}
@@ -25,7 +24,7 @@ use Rattle.protocol.specs.Entry.{Room, room_for, first_refusal, simulate, RunRep
 use Rattle.protocol.specs.PlainRun.{stop_numbers, one_of, Cycle, Prepared, rows_left, Budgeted, PlainRun}
 use Rattle.protocol.proofs.Conditions.{meets-above}
 use Rattle.protocol.specs.SamplesApart.{SamplesApart}
-use Rattle.protocol.proofs.ListLaws.{or_right}
+use Rattle.protocol.proofs.ListLaws.{both, or_right}
 use Rattle.protocol.proofs.EntryLaws.{Passes, ahead_none, simulate_runs, simulate-refuses}
 use Rattle.preparation.specs.Preparation.{own_number}
 use Rattle.preparation.proofs.Positive.{Positive, ahead-positive}
@@ -33,7 +32,7 @@ use Rattle.simulation.proofs.Whole.{own_none}
 use Rattle.simulation.specs.KernelRun.{propagator_of, refusal_of}
 use Rattle.simulation.specs.Entries.{simulate_entry, run_reply}
 use Rattle.simulation_report.specs.declared.RunReply.{RunReply}
-use Rattle.theorem_runs_and_cycles.specs.Simulate.{Slices, Call, call_states, call_events, reckoned_rows, call_room, entry_of, AtExit}
+use Rattle.theorem_runs_and_cycles.specs.Simulate.{Slices, Call, call_states, reckoned_rows, call_room, entry_of, AtExit}
 use Rattle.theorem_runs_and_cycles.specs.Simulate.{Contract, TimesFit, Passed, run_on, FirstMetOn, AtEnd, AtStop, Replied, Apart}
 use Rattle.theorem_runs_and_cycles.specs.Simulate.{EverySimulate}
 use Rattle.theorem_runs_and_cycles.proofs.Demand3.{demand_3}
@@ -52,51 +51,38 @@ module _ (c : Call) where
   -- the run begins
   began : Passed c → entry_of c ≡ R.done (run_on c)
   unfolding simulate_entry
-  began p =
-      ap (λ (b : Bool). cond b (simulate (propagator_of c.kernel) own (call_states c) c.window c.samples (call_events c) c.amounts
-      (call_room c)) (R.refused 5)) (le-leb c.count most_events p.count)
-      ∙ simulate_runs (propagator_of c.kernel) own (call_states c) c.window c.samples (call_events c) c.amounts (call_room c) p.tests
+  began p = simulate_runs (propagator_of c.kernel) own (call_states c) c.window c.samples c.events c.amounts (call_room c) p.tests
 
-  passes : Passed c → Passes own (call_states c) c.window c.samples (call_events c) c.amounts (call_room c)
-  passes p = ahead_none own (call_states c) c.window c.samples (call_events c) c.amounts (call_room c) p.tests
+  passes : Passed c → Passes own (call_states c) c.window c.samples c.events c.amounts (call_room c)
+  passes p = ahead_none own (call_states c) c.window c.samples c.events c.amounts (call_room c) p.tests
 
-  prepared : TimesFit c → Passed c → Prepared (call_states c) c.window c.samples (call_events c)
+  prepared : TimesFit c → Passed c → Prepared (call_states c) c.window c.samples c.events
   prepared f p =
       record { start_fits = f.start_fits; end_fits = f.end_fits; samples_fit = f.samples_fit; times_fit = f.times_fit; passes = (passes p).prepared }
 
   plain : TimesFit c → Passed c → PlainRun (propagator_of c.kernel) (refusal_of c.kernel) (call_states c) c.window c.samples
-      (call_events c) c.amounts
+      c.events c.amounts
   plain f p =
-      demand_3.plain_run c.kernel (own_none c.kernel (passes p).kernel) c.window c.samples (call_events c) (prepared f p)
+      demand_3.plain_run c.kernel (own_none c.kernel (passes p).kernel) c.window c.samples c.events (prepared f p)
       c.amounts (passes p).amounts
 
   module _ (r : RunReply) (exit : Slices) (q : Contract c r exit) where
     -- a reply of 0 is no refusal ahead
     passed : (run_reply r).number ≡ 0 → Passed c
     unfolding simulate_entry
-    passed e = record { count = leb→le c.count most_events counts; tests = on _ refl }
+    passed e = record { count = leb→le (length c.events) most_events (both _ _ (ahead_none own _ _ _ _ _ _ tests).limits).0; tests = tests }
       where
-        whole : R.Result Outcome
-        whole = simulate (propagator_of c.kernel) own (call_states c) c.window c.samples (call_events c) c.amounts (call_room c)
-
-        number : (report_of (cond (leb c.count most_events) whole (R.refused 5))).number ≡ 0
-        number = sym (ap (λ (x : RunReport). x.number) q.reply) ∙ e
-
-        counts : T (leb c.count most_events)
-        counts = on (leb c.count most_events) number
-          where
-            on : (b : Bool) → (report_of (cond b whole (R.refused 5))).number ≡ 0 → T b
-            on true z = tt
-            on false z = not_zero (omega arith) z
-
-        on : (o : Option ℕ) → first_refusal own (call_states c) c.window c.samples (call_events c) c.amounts (call_room c) ≡ o
-            → first_refusal own (call_states c) c.window c.samples (call_events c) c.amounts (call_room c) ≡ none
+        on : (o : Option ℕ) → first_refusal own (call_states c) c.window c.samples c.events c.amounts (call_room c) ≡ o
+            → first_refusal own (call_states c) c.window c.samples c.events c.amounts (call_room c) ≡ none
         on none d = d
         on (some m) d =
-            not_zero (subst Positive d (ahead-positive c.kernel (call_states c) c.window c.samples (call_events c) c.amounts (call_room c)))
-            (sym (ap (λ (b : Bool). (report_of (cond b whole (R.refused 5))).number) (le-leb c.count most_events (leb→le c.count most_events counts))
+            not_zero (subst Positive d (ahead-positive c.kernel (call_states c) c.window c.samples c.events c.amounts (call_room c)))
+            (sym (ap (λ (x : RunReport). x.number) q.reply
             ∙ ap (λ (x : R.Result Outcome). (report_of x).number) (simulate-refuses (propagator_of c.kernel) own (call_states c) c.window
-            c.samples (call_events c) c.amounts (call_room c) m d)) ∙ number)
+            c.samples c.events c.amounts (call_room c) m d)) ∙ e)
+
+        tests : first_refusal own (call_states c) c.window c.samples c.events c.amounts (call_room c) ≡ none
+        tests = on _ refl
 
     module _ (f : TimesFit c) (p : Passed c) where
       -- the reply and the slices are those of the run's outcome
@@ -106,7 +92,7 @@ module _ (c : Call) where
       slices-at : (o : Outcome) → run_on c ≡ o → AtExit c (R.done o) exit
       slices-at o e = subst (λ (x : R.Result Outcome). AtExit c x exit) (began p ∙ ap R.done e) q.slices
 
-      run : PlainRun (propagator_of c.kernel) (refusal_of c.kernel) (call_states c) c.window c.samples (call_events c) c.amounts
+      run : PlainRun (propagator_of c.kernel) (refusal_of c.kernel) (call_states c) c.window c.samples c.events c.amounts
       run = plain f p
 
       few : (o : Outcome) → length (rows_left o) ≤ reckoned_rows c → (report_of (R.done o)).rows ≤ reckoned_rows c
@@ -197,14 +183,14 @@ module _ (c : Call) where
 module _ (c c' : Call) (f : TimesFit c) (f' : TimesFit c') (p : Passed c) (p' : Passed c') (d : Apart c c') where
   apart : (z z' : State) → run_on c ≡ go z → run_on c' ≡ go z' → SamplesApart z z'
   apart z z' e e' =
-      demand_3.samples_apart (call_states c) (propagator_of c.kernel) c.window c'.window c.samples c'.samples (call_events c) c.amounts
-      (prepared c f p) (subst (λ (k : LinearPk). Prepared (state_count k) c'.window c'.samples (call_events c)) (sym d.kernel)
+      demand_3.samples_apart (call_states c) (propagator_of c.kernel) c.window c'.window c.samples c'.samples c.events c.amounts
+      (prepared c f p) (subst (λ (k : LinearPk). Prepared (state_count k) c'.window c'.samples c.events) (sym d.kernel)
       (subst (Prepared (call_states c') c'.window c'.samples) (sym d.listed) (prepared c' f' p')))
       d.start d.end z z' e (ran ∙ e')
     where
-      ran : run_of (propagator_of c.kernel) (call_states c) c'.window c'.samples (call_events c) c.amounts ≡ run_on c'
+      ran : run_of (propagator_of c.kernel) (call_states c) c'.window c'.samples c.events c.amounts ≡ run_on c'
       ran =
-          ap₂ (λ (k : LinearPk) (a : List Float). run_of (propagator_of k) (state_count k) c'.window c'.samples (call_events c) a) d.kernel d.amounts
+          ap₂ (λ (k : LinearPk) (a : List Float). run_of (propagator_of k) (state_count k) c'.window c'.samples c.events a) d.kernel d.amounts
           ∙ ap (λ (es : List Event). run_of (propagator_of c'.kernel) (call_states c') c'.window c'.samples es c'.amounts) d.listed
 
 pub every_simulate : EverySimulate

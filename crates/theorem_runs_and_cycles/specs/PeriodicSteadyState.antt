@@ -1,5 +1,5 @@
 -- Demand 3 of what `periodic_steady_state` replies and leaves in the lent slices, for every call that meets its contract. Claims, no proof.
-use Rattle.std.specs.Prelude.{◌≡◌, ℕ, ◌≤◌, ◌<◌, List, [], ◌∷◌, ◌++◌, ◌⊎◌, ◌↔◌, T, length, take, drop, Float}
+use Rattle.std.specs.Prelude.{◌≡◌, ℕ, ◌≤◌, ◌<◌, List, [], ◌∷◌, ◌++◌, ◌⊎◌, ◌↔◌, T, length, drop, Float, Result as Outcome}
 use Rattle.limits.specs.Limits.{most_cycle_events, most_samples}
 use Rattle.binary64.specs.Doubles.{plus_zero}
 use Rattle.refusal.specs.Result.{done}
@@ -14,7 +14,7 @@ use Rattle.cycle.specs.Closed.{Timed, stopped, divided, last_post, candidate_of,
 use Rattle.cycle.specs.ClosedCycle.{TimesFit, closed_numbers, Yields, Accepts, Rejects, maximum_to}
 use Rattle.periodic_acceptance.specs.Replies.{SteadyAnswer}
 use Rattle.periodic_acceptance.specs.Entry.{steady_room, steady_entry, steady_reply}
-use Rattle.periodic_acceptance.specs.declared.SteadyReply.{SteadyReply}
+use Rattle.periodic_runs.specs.declared.Stop.{Stop}
 
 -- ---- a call
 -- the cells of the lent slices
@@ -27,7 +27,6 @@ pub record Call : Type 0 where
   pub kernel : LinearPk
   pub window : Window
   pub events : List Event
-  pub count : ℕ
   pub samples : List Float
   pub tolerance : SteadyStateTolerance
   pub lent : Slices
@@ -35,14 +34,14 @@ pub record Call : Type 0 where
 abbrev pub call_states : Call → ℕ
 call_states c = state_count c.kernel
 
--- the first `count` events
-abbrev pub call_events : Call → List Event
-call_events c = take c.count c.events
-
 abbrev pub entry_of : Call → Timed SteadyState
 entry_of c =
-    steady_entry c.kernel c.window c.samples c.events c.count c.tolerance
+    steady_entry c.kernel c.window c.samples c.events c.tolerance
     (steady_room c.kernel (length c.lent.amounts) (length c.lent.residual))
+
+-- the greatest scaled residual, or a refusal with its time
+abbrev pub SteadyReply : Type 0
+SteadyReply = Outcome Float Stop
 
 -- the contract of `periodic_steady_state`: its reply r, and the slices at exit
 abbrev pub Contract : Call → SteadyReply → Slices → Type 0
@@ -51,7 +50,7 @@ Contract c r exit = SteadyAnswer (entry_of c) (steady_reply r) c.lent.amounts c.
 -- ---- what is given
 -- within the limits, a kernel that passes its own test, a cell for each state in both slices
 pub record Passed (c : Call) : Type 0 where
-  pub count : c.count ≤ most_cycle_events
+  pub count : length c.events ≤ most_cycle_events
   pub samples : length c.samples ≤ most_samples
   pub kernel : sound c.kernel ≡ done c.kernel
   pub amounts : call_states c ≤ length c.lent.amounts
@@ -59,11 +58,11 @@ pub record Passed (c : Call) : Type 0 where
 
 -- ---- what is claimed
 abbrev pub candidate : Call → Timed (List Float)
-candidate c = candidate_of (propagator_of c.kernel) (call_states c) c.window c.samples (call_events c) c.tolerance
+candidate c = candidate_of (propagator_of c.kernel) (call_states c) c.window c.samples c.events c.tolerance
 
 -- elimination yields the candidate a
 abbrev pub YieldsOn : Call → List Float → Type 0
-YieldsOn c a = Yields (propagator_of c.kernel) (call_states c) c.window c.samples (call_events c) c.tolerance a
+YieldsOn c a = Yields (propagator_of c.kernel) (call_states c) c.window c.samples c.events c.tolerance a
 
 -- the candidate a of the folded list fs is accepted
 abbrev pub AcceptsOn : Call → List Event → List Float → Type 0
@@ -107,7 +106,7 @@ pub record EverySteadyState : Type 0 where
   -- within the limits, of a kernel that passes its own test, with room for the answer
   pub replied : (c : Call) (r : SteadyReply) (exit : Slices)
       → Contract c r exit
-      → TimesFit c.window (call_events c)
+      → TimesFit c.window c.events
       → Passed c
       → Replied c r exit
   -- at every number above 0 the slices are as they were

@@ -1,5 +1,5 @@
 -- Demand 3 of what `simulate` replies and leaves in the lent slices, for every call that meets its contract. Claims, no proof.
-use Rattle.std.specs.Prelude.{◌≡◌, ℕ, ◌*◌, ◌≤◌, ◌<◌, List, [], ◌∷◌, ◌++◌, ◌↔◌, T, length, take, Float}
+use Rattle.std.specs.Prelude.{◌≡◌, ℕ, ◌*◌, ◌≤◌, ◌<◌, List, [], ◌∷◌, ◌++◌, ◌↔◌, T, length, Float}
 use Rattle.std.proofs.Math.Option.{none}
 use Rattle.std.specs.Float.{binary64}
 use Rattle.std.specs.Float.Ieee.{fits}
@@ -36,25 +36,20 @@ pub record Call : Type 0 where
   pub amounts : List Float
   pub window : Window
   pub events : List Event
-  pub count : ℕ
   pub samples : List Float
   pub lent : Slices
 
 abbrev pub call_states : Call → ℕ
 call_states c = state_count c.kernel
 
--- the first `count` events
-abbrev pub call_events : Call → List Event
-call_events c = take c.count c.events
-
 abbrev pub reckoned_rows : Call → ℕ
-reckoned_rows c = reckoned c.samples (call_events c)
+reckoned_rows c = reckoned c.samples c.events
 
 abbrev pub call_room : Call → Room
 call_room c = room (length c.lent.times) (length c.lent.sides) (length c.lent.values)
 
 abbrev pub entry_of : Call → Result Outcome
-entry_of c = simulate_entry c.kernel c.amounts c.window c.events c.count c.samples (call_room c)
+entry_of c = simulate_entry c.kernel c.amounts c.window c.events c.samples (call_room c)
 
 -- the slices at exit for the outcome o
 pub record AtExit (c : Call) (o : Result Outcome) (exit : Slices) : Type 0 where
@@ -73,27 +68,27 @@ pub record TimesFit (c : Call) : Type 0 where
   pub start_fits : T (fits binary64 c.window.start)
   pub end_fits : T (fits binary64 c.window.end)
   pub samples_fit : T (all (fits binary64) c.samples)
-  pub times_fit : T (all (λ (e : Event). fits binary64 (time e)) (call_events c))
+  pub times_fit : T (all (λ (e : Event). fits binary64 (time e)) c.events)
 
 -- no test ahead of the run refuses
 pub record Passed (c : Call) : Type 0 where
-  pub count : c.count ≤ most_events
-  pub tests : first_refusal (own_number (sound c.kernel)) (call_states c) c.window c.samples (call_events c) c.amounts (call_room c) ≡ none
+  pub count : length c.events ≤ most_events
+  pub tests : first_refusal (own_number (sound c.kernel)) (call_states c) c.window c.samples c.events c.amounts (call_room c) ≡ none
 
 -- ---- what is claimed
 -- 01's run
 abbrev pub run_on : Call → Outcome
-run_on c = run_of (propagator_of c.kernel) (call_states c) c.window c.samples (call_events c) c.amounts
+run_on c = run_of (propagator_of c.kernel) (call_states c) c.window c.samples c.events c.amounts
 
 -- the first condition that 01's run meets is that of the number m, with the time t
 abbrev pub FirstMetOn : Call → ℕ → Float → Type 0
 FirstMetOn c m t =
     FirstMet (propagator_of c.kernel) (refusal_of c.kernel) c.window.propagations (begin c.amounts)
-    (schedule (call_states c) c.window c.samples (call_events c)) m t
+    (schedule (call_states c) c.window c.samples c.events) m t
 
 -- 01's run reaches the end with the state z, and the call replies so: rows and advances of that run in the reply, its rows in the slices
 pub record AtEnd (c : Call) (r : RunReply) (exit : Slices) (z : State) : Type 0 where
-  pub reached : Reached (call_states c) c.window c.samples (call_events c) z
+  pub reached : Reached (call_states c) c.window c.samples c.events z
   pub time : (run_reply r).time ≡ plus_zero
   pub rows : (run_reply r).rows ≡ length z.rows
   pub advances : (run_reply r).advances ≡ length z.advances
@@ -126,7 +121,7 @@ pub record Apart (c c' : Call) : Type 0 where
   pub amounts : c.amounts ≡ c'.amounts
   pub start : c.window.start ≡ c'.window.start
   pub end : c.window.end ≡ c'.window.end
-  pub listed : call_events c ≡ call_events c'
+  pub listed : c.events ≡ c'.events
 
 -- the slices of both hold the rows of 01's runs, and these have the same boundary rows, and the same amounts in readings at equal times
 pub record SameRows (c c' : Call) (exit exit' : Slices) : Type 0 where

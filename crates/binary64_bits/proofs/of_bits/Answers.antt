@@ -17,6 +17,3 @@ unfolding div of_bits
 returns-then-is_nan_bits c =
     let bits = c.args.bits in
     nan_is (of_bits binary64 bits) (sym (nan_bits_is binary64 bits) ∙ sym c.is_nan_bits.ensures ∙ c.if-is_nan_bits.true)
-
-pub float_from_bits-result : goal.float_from_bits-result
-float_from_bits-result c = subst (λ (t : Bool). T (not t)) (sym c.if-is_nan_bits.false ∙ c.is_nan_bits.ensures) tt

@@ -8,8 +8,7 @@ pub returns-then-bound-lt-BOUND_CELLS : goal.returns-then-bound-lt-BOUND_CELLS
 returns-then-bound-lt-BOUND_CELLS c =
     rw (
       ← c.kernel_at.ensures,
-      bind_done _ _ _ (sym (rw c.in-Done.is at
-          c.bind-made.ensures.bound_value)),
+      bind_done _ _ _ (sym c.in-Ok.ensures),
       lt-leb _ _ c.if-bound-lt-BOUND_CELLS.true,
       c.number-then-bound-lt-BOUND_CELLS.ensures,
     ) (record {
@@ -17,12 +16,11 @@ returns-then-bound-lt-BOUND_CELLS c =
       bound_after = refl;
     })
 
-pub returns-in-Refused : goal.returns-in-Refused
-returns-in-Refused c =
+pub returns-in-Err : goal.returns-in-Err
+returns-in-Err c =
     rw (
       ← c.kernel_at.ensures,
-      bind-refused _ _ _ (sym (rw c.in-Refused.is at
-          c.bind-made.ensures.bound_value)),
+      bind-refused _ _ _ (sym c.in-Err.ensures),
       c.number.ensures,
     ) (record {
       value = refl;
@@ -33,7 +31,7 @@ pub returns-else-bound-lt-BOUND_CELLS : goal.returns-else-bound-lt-BOUND_CELLS
 returns-else-bound-lt-BOUND_CELLS c =
     rw (
       ← c.kernel_at.ensures,
-      bind_done _ _ _ (sym (rw c.in-Done.is at c.bind-made.ensures.bound_value)),
+      bind_done _ _ _ (sym c.in-Ok.ensures),
       le-leb _ _ c.if-bound-lt-BOUND_CELLS.false,
     ) (record {
       value = refl;

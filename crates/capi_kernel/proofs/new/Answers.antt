@@ -8,8 +8,7 @@ pub returns-then-kernel-lt-KERNEL_CELLS : goal.returns-then-kernel-lt-KERNEL_CEL
 returns-then-kernel-lt-KERNEL_CELLS c =
     rw (
       ← c.absorption_of.ensures,
-      new-done _ _ _ _ _ (sym (rw c.in-Done.is at
-          c.new-made.ensures.kernel_value)),
+      new-done _ _ _ _ _ (sym c.in-Ok.ensures),
       lt-leb _ _ c.if-kernel-lt-KERNEL_CELLS.true,
       c.number-then-kernel-lt-KERNEL_CELLS.ensures,
     ) (record {
@@ -17,12 +16,11 @@ returns-then-kernel-lt-KERNEL_CELLS c =
       kernel_after = refl;
     })
 
-pub returns-in-Refused : goal.returns-in-Refused
-returns-in-Refused c =
+pub returns-in-Err : goal.returns-in-Err
+returns-in-Err c =
     rw (
       ← c.absorption_of.ensures,
-      new-refused _ _ _ _ _ (sym (rw c.in-Refused.is at
-          c.new-made.ensures.kernel_value)),
+      new-refused _ _ _ _ _ (sym c.in-Err.ensures),
       c.number.ensures,
     ) (record {
       value = refl;
@@ -33,8 +31,7 @@ pub returns-else-kernel-lt-KERNEL_CELLS : goal.returns-else-kernel-lt-KERNEL_CEL
 returns-else-kernel-lt-KERNEL_CELLS c =
     rw (
       ← c.absorption_of.ensures,
-      new-done _ _ _ _ _ (sym (rw c.in-Done.is at
-          c.new-made.ensures.kernel_value)),
+      new-done _ _ _ _ _ (sym c.in-Ok.ensures),
       le-leb _ _ c.if-kernel-lt-KERNEL_CELLS.false,
     ) (record {
       value = refl;

@@ -1,19 +1,8 @@
-use mathlib.Core.Path.{refl}
-use native.Mathlib.Omega.{arith}
-use Prim.Native.Nat.{◌-◌}
-use lib.Ieee.{of_bits}
-use Rattle.matrix.proofs.Filled.{fill, fill_from, fill_more, filled}
-use Rattle.capi_kernel_cells.specs.Writing.{bound_cell}
+-- `capi_kernel_cells::bound_cells` meets its contract.
+use borrow.Author.Rules.{rules}
+use Rattle.limits.specs.Limits.{bound_cells}
+use Rattle.matrix.proofs.Made.{made}
 use Rattle.capi_kernel_cells.proofs.bound_cells.Goals as goal
 
-pub loop-i-init : goal.loop-i-init
-unfolding fill fill_from of_bits
-loop-i-init c = (omega arith, refl)
-
-pub loop-i-preserved : goal.loop-i-preserved
-unfolding fill fill_from of_bits
-loop-i-preserved c = (omega arith, fill_more _ _ _ _ c.loop-i.invariant.1 c.bound_cell.ensures (omega arith))
-
 pub returns : goal.returns
-unfolding fill fill_from of_bits
-returns c = filled _ _ _ _ c.loop-i.invariant.0 c.loop-i-test.false c.loop-i.invariant.1
+returns c = made bound_cells (λ k y q l e. search rules) c.from_fn.ensures.items

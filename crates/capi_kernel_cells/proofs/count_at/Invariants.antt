@@ -1,12 +1,7 @@
 -- `capi_kernel_cells::count_at` meets its contract. The invariant: which of 1 to k it is.
 use mathlib.Core.Path.{◌≡◌}
-use Prim.Native.Nat.{◌≤◌, ◌-◌}
-use Rattle.limits.specs.Limits.{most_volumes}
 use Rattle.capi_kernel_cells.specs.Reading.{count_to}
 use Rattle.capi_kernel_cells.proofs.count_at.Given as goal
 
 abbrev pub invariant-loop-k : goal.invariant-loop-k
-invariant-loop-k l = (l.k ≤ most_volumes) × (l.count ≡ count_to l.k l.x)
-
-abbrev pub decreases-loop-k : goal.decreases-loop-k
-decreases-loop-k l = most_volumes - l.k
+invariant-loop-k l = l.count ≡ count_to l.k l.x

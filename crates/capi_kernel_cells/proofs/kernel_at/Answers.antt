@@ -30,6 +30,6 @@ returns c =
       not-false (eq (cell c.args.cells.now 1) plus_zero
           || eq (cell c.args.cells.now 1) one) (ap not c.if-not-depot.false),
       c.count_at-compartments.ensures,
-      c.volumes_at-volumes.ensures,
-      c.matrix_at-matrix.ensures,
+      c.cells_from-volumes.ensures,
+      c.cells_from-matrix.ensures,
     )

@@ -1,10 +1,13 @@
 -- `doses::apply_resets` meets its contract.
-use native.Mathlib.Omega.{arith}
-use Rattle.doses.proofs.ResetOrder.{places-zero}
+use mathlib.Core.Path.{sym, ◌∙◌}
+use Rattle.rows.proofs.Parts.{ran-nothing}
+use Rattle.doses.proofs.Listings.{no_resets}
 use Rattle.doses.proofs.apply_resets.Goals as goal
 
-pub list_resets-m-requires : goal.list_resets-m-requires
-list_resets-m-requires c = (omega arith, places-zero)
+pub returns-then-not-has_reset : goal.returns-then-not-has_reset
+returns-then-not-has_reset c =
+    rw (no_resets c.args.t c.args.events.now (sym c.has_reset.ensures ∙ c.if-not-has_reset.true), c.resumed.ensures)
+    (record { ran = λ a w. ran-nothing c.args.start w })
 
 pub returns : goal.returns
-returns c = rw c.list_resets-m.ensures.2 at c.apply_listed.ensures
+returns c = rw (c.as_slice.ensures.value, c.resets_at-listed.ensures) at c.apply_each.ensures

@@ -8,4 +8,4 @@ pub slice_bounds-state-end : goal.slice_bounds-state-end
 slice_bounds-state-end c = sym (length-take-le c.args.n c.args.amounts (omega arith))
 
 pub returns : goal.returns
-returns c = c.all_pass.ensures
+returns c = c.all_nonnegative.ensures

@@ -4,10 +4,10 @@ use Rattle.doses_steps.proofs.dose.Goals as goal
 
 pub returns-then-i-n : goal.returns-then-i-n
 returns-then-i-n c =
-    dose-put c.args.n c.args.event c.args.amounts c.target_of-i.result
-    c.target_of-i.ensures c.dosed.ensures c.if-i-n.true
+    dose-put c.args.n c.args.event.now c.args.amounts c.target-i.result
+    c.target-i.ensures c.dosed.ensures c.if-i-n.true
 
 pub returns : goal.returns
 returns c =
-    dose-beyond c.args.n c.args.event c.args.amounts
-    c.target_of-i.result c.target_of-i.ensures c.if-i-n.false
+    dose-beyond c.args.n c.args.event.now c.args.amounts
+    c.target-i.result c.target-i.ensures c.if-i-n.false

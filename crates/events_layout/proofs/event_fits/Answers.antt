@@ -4,4 +4,4 @@ use Rattle.events_layout.proofs.event_fits.Goals as goal
 
 pub returns : goal.returns
 unfolding event_fits
-returns c = rw (c.words_listed.ensures, c.word_at-3.ensures, c.word_at-2.ensures, c.word_at.ensures)
+returns g c = rw (c.words_listed.ensures, c.word_at-3.ensures, c.word_at-2.ensures, c.word_at.ensures)

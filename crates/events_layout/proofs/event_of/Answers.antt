@@ -5,7 +5,7 @@ use Rattle.events_layout.proofs.event_of.Goals as goal
 
 pub returns : goal.returns
 unfolding event_of
-returns c =
+returns g c =
     c.event_from.ensures ∙ rw (
       c.word_at.ensures,
       c.word_at-2.ensures,

@@ -1,37 +1,32 @@
 -- `exponential::exponential` meets its contract.
 use mathlib.Core.Path.{sym, ap, ◌∙◌}
 use lib.Ieee.{of_bits}
+use Rattle.std.proofs.lemmas.Result.{err_from_is_err_and}
 use Rattle.matrix.specs.Exponential.{scheme}
-use Rattle.exponential_norm.specs.Answers.{halvings_result}
+use Rattle.refusal.specs.Numbers.{outcome_of}
 use Rattle.matrix.proofs.Cases.{exponential-refused, exponential-at}
 use Rattle.exponential.proofs.exponential.Goals as goal
+
+pub returns-in_err-halvings : goal.returns-in_err-halvings
+unfolding of_bits
+returns-in_err-halvings c =
+    let p = err_from_is_err_and c.from_residual.result c.from_residual.ensures.1 in
+    rw (p.1, p.2) (sym (exponential-refused scheme _ _ c.norm.ensures (sym c.in_err-halvings.ensures)))
 
 pub returns-then-not-all_finite : goal.returns-then-not-all_finite
 unfolding of_bits
 returns-then-not-all_finite c =
     rw (
-      exponential-at scheme _ _ c.norm.ensures (sym c.count_halvings-count.ensures
-          ∙ ap halvings_result c.in-Count.is) c.taylor-p.ensures c.all_finite.ensures,
+      exponential-at scheme _ _ c.norm.ensures (sym c.count_halvings.ensures ∙ ap outcome_of c.in_ok-halvings.was)
+          c.taylor-matrix.ensures c.all_finite.ensures,
       c.if-not-all_finite.true,
     )
 
-pub returns-in-NormNotFinite : goal.returns-in-NormNotFinite
+pub returns : goal.returns
 unfolding of_bits
-returns-in-NormNotFinite c =
-    sym (exponential-refused scheme _ _ c.norm.ensures (sym c.count_halvings-count.ensures
-    ∙ ap halvings_result c.in-NormNotFinite.is))
-
-pub returns-in-TooMany : goal.returns-in-TooMany
-unfolding of_bits
-returns-in-TooMany c =
-    sym (exponential-refused scheme _ _ c.norm.ensures (sym c.count_halvings-count.ensures
-    ∙ ap halvings_result c.in-TooMany.is))
-
-pub returns-else-not-all_finite : goal.returns-else-not-all_finite
-unfolding of_bits
-returns-else-not-all_finite c =
+returns c =
     rw (
-      exponential-at scheme _ _ c.norm.ensures (sym c.count_halvings-count.ensures
-          ∙ ap halvings_result c.in-Count.is) c.taylor-p.ensures c.all_finite.ensures,
+      exponential-at scheme _ _ c.norm.ensures (sym c.count_halvings.ensures ∙ ap outcome_of c.in_ok-halvings.was)
+          c.taylor-matrix.ensures c.all_finite.ensures,
       c.if-not-all_finite.false,
     )

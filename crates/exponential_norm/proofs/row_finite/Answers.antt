@@ -1,19 +1,11 @@
-use mathlib.Core.Path.{refl}
+-- `exponential_norm::row_finite` meets its contract.
 use native.Mathlib.Omega.{arith}
-use Prim.Native.Nat.{◌-◌}
-use native.Mathlib.Nat.{le_antisymm}
-use native.Mathlib.Numerals.{add-one}
-use Rattle.matrix.specs.Matrix.{all_to, at}
+use mathlib.Core.Path.{refl, ◌∙◌}
+use lib.Ieee.{nan}
+use lib.Ieee.Scale.{finite}
+use Rattle.matrix.specs.Matrix.{cell}
+use Rattle.matrix.proofs.Fronts.{all_front}
 use Rattle.exponential_norm.proofs.row_finite.Goals as goal
 
-pub loop-j-init : goal.loop-j-init
-unfolding all_to
-loop-j-init c = (omega arith, refl)
-
-pub loop-j-preserved : goal.loop-j-preserved
-unfolding all_to
-loop-j-preserved c = (omega arith, rw (add-one, c.is_finite-ok.ensures, c.loop-j.invariant.1))
-
 pub returns : goal.returns
-unfolding all_to
-returns c = rw (le_antisymm c.loop-j.invariant.0 c.loop-j-test.false) at c.loop-j.invariant.1
+returns g c = c.all_finite.ensures ∙ all_front finite (λ j. finite (cell c.args.row.now j)) c.args.m c.args.row.now nan (omega arith) (λ i l. refl)

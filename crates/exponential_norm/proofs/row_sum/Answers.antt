@@ -1,21 +1,26 @@
 use mathlib.Core.Path.{refl}
-use native.Mathlib.Omega.{arith}
-use Prim.Native.Nat.{◌-◌}
-use native.Mathlib.Nat.{le_antisymm}
+use Prim.Native.Nat.{◌<◌}
 use native.Mathlib.Numerals.{add-one}
-use lib.Ieee.{of_bits, neg}
-use Rattle.matrix.specs.Matrix.{sum_to, at}
-use Rattle.matrix.specs.Exponential.{row_sum}
+use native.Mathlib.Omega.{arith}
+use native.Mathlib.Nat.{le_antisymm}
+use lib.Seq.{get_or-take}
+use lib.Ieee.{of_bits, neg, nan}
+use Rattle.std.proofs.Common.{length-take-le}
+use Rattle.matrix.specs.Matrix.{sum_to}
 use Rattle.exponential_norm.proofs.row_sum.Goals as goal
 
-pub loop-j-init : goal.loop-j-init
-unfolding neg of_bits row_sum sum_to
-loop-j-init c = (omega arith, refl)
+pub loop-x-init : goal.loop-x-init
+unfolding neg of_bits sum_to
+loop-x-init g c = refl
 
-pub loop-j-preserved : goal.loop-j-preserved
-unfolding neg of_bits row_sum sum_to
-loop-j-preserved c = (omega arith, rw (add-one, c.abs-sum.ensures, c.loop-j.invariant.1))
+pub loop-x-preserved : goal.loop-x-preserved
+unfolding neg of_bits sum_to
+loop-x-preserved g c =
+    let below : c.loop-x.x-index < c.args.m = rw (length-take-le c.args.m c.args.row.now (omega arith)) at c.loop-x-test.true in
+    rw (add-one, c.abs-sum.ensures, c.loop-x.invariant, get_or-take c.args.m c.args.row.now c.loop-x.x-index nan below)
 
 pub returns : goal.returns
-unfolding neg of_bits row_sum sum_to
-returns c = rw (le_antisymm c.loop-j.invariant.0 c.loop-j-test.false) at c.loop-j.invariant.1
+unfolding neg of_bits
+returns g c =
+    let long = length-take-le c.args.m c.args.row.now (omega arith) in
+    rw (← long, le_antisymm c.loop-x-test.false c.loop-x.auto.x-index-end) c.loop-x.invariant

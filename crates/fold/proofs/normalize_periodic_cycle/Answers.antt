@@ -1,23 +1,33 @@
 -- `fold::normalize_periodic_cycle` meets its contract.
+use mathlib.Core.Path.{◌∙◌}
 use borrow.Author.Tests.{lt-leb, le-leb}
-use Rattle.fold.proofs.Listing.{over-count, over-samples, kernel-refused, entry_folds}
+use Rattle.std.proofs.lemmas.Result.{err_from_is_err_and}
+use Rattle.fold.specs.Entry.{fold_entry}
+use Rattle.fold.proofs.Tests.{entry_folds}
 use Rattle.fold.proofs.normalize_periodic_cycle.Goals as goal
 
+pub returns-then-events-gt-CYCLE_EVENTS : goal.returns-then-events-gt-CYCLE_EVENTS
+unfolding fold_entry
+returns-then-events-gt-CYCLE_EVENTS c = rw (lt-leb _ _ c.if-events-gt-CYCLE_EVENTS.true)
+
 pub returns-then-samples-gt-SAMPLES : goal.returns-then-samples-gt-SAMPLES
-returns-then-samples-gt-SAMPLES c = rw (over-samples _ _ _ _ _ (le-leb _ _ c.if-count-gt-CYCLE_EVENTS.false) (lt-leb _ _ c.if-samples-gt-SAMPLES.true)) c.refused_cycle-then-samples-gt-SAMPLES.ensures
+unfolding fold_entry
+returns-then-samples-gt-SAMPLES c =
+    rw (le-leb _ _ c.if-events-gt-CYCLE_EVENTS.false, lt-leb _ _ c.if-samples-gt-SAMPLES.true)
 
-pub returns-in-Refused : goal.returns-in-Refused
-returns-in-Refused c =
-    rw (kernel-refused _ _ _ _ _ (le-leb _ _ c.if-count-gt-CYCLE_EVENTS.false) (le-leb _ _ c.if-samples-gt-SAMPLES.false)
-    (rw c.in-Refused.is at c.check-sound.ensures)) c.refused_cycle-in-Refused.ensures
-
-pub returns-in-Done : goal.returns-in-Done
-returns-in-Done c =
+pub returns-in_err-check : goal.returns-in_err-check
+unfolding fold_entry
+returns-in_err-check c =
+    let p = err_from_is_err_and c.from_residual.result c.from_residual.ensures.1 in
     rw (
-      entry_folds _ _ _ _ _ (le-leb _ _ c.if-count-gt-CYCLE_EVENTS.false) (le-leb _ _ c.if-samples-gt-SAMPLES.false)
-          (rw c.in-Done.is at c.check-sound.ensures),
-      ← c.state_count.ensures.0,
-    ) c.folded_list.ensures
+      p.1,
+      p.2,
+      le-leb _ _ c.if-events-gt-CYCLE_EVENTS.false,
+      le-leb _ _ c.if-samples-gt-SAMPLES.false,
+      ← c.in_err-check.ensures,
+    )
 
-pub returns-then-count-gt-CYCLE_EVENTS : goal.returns-then-count-gt-CYCLE_EVENTS
-returns-then-count-gt-CYCLE_EVENTS c = rw (over-count _ _ _ _ _ (lt-leb _ _ c.if-count-gt-CYCLE_EVENTS.true)) c.refused_cycle.ensures
+pub returns : goal.returns
+returns c =
+    c.folded.ensures
+    ∙ entry_folds _ _ _ _ c.if-events-gt-CYCLE_EVENTS.false c.if-samples-gt-SAMPLES.false c.in_ok-check.ensures c.state_count.ensures.0

@@ -1,28 +1,28 @@
 -- `fold_event::with_event` meets its contract.
-use mathlib.Core.Path.{refl}
-use Rattle.refusal.specs.declared.Refusal.TheVariants as R
-use Rattle.fold_event.proofs.Events.{event_outside, event_refused, event_over, event_done}
+use borrow.Author.Tests.{lt-leb, le-leb}
+use Rattle.std.proofs.lemmas.Result.{err_from_is_err_and}
+use Rattle.cycle.specs.Fold.{count_passes, with_event}
+use Rattle.fold_event.proofs.Events.{event_on}
 use Rattle.fold_event.proofs.with_event.Goals as goal
 
-pub returns-then-not-time_passes : goal.returns-then-not-time_passes
-returns-then-not-time_passes c =
-    event_outside _ _ _ _ _ _ (rw (c.time_of.ensures, c.event_at-event.ensures) at
-    c.time_passes.ensures) R.CycleEvent refl c.requires.3 c.requires.4 c.refused.ensures (c.if-not-time_passes.true)
+pub returns-then-not-time_passes-clause-folded : goal.returns-then-not-time_passes-clause-folded
+unfolding with_event
+returns-then-not-time_passes-clause-folded c = rw (← c.time.ensures, ← c.time_passes.ensures, c.if-not-time_passes.true)
 
-pub returns-then-folding-most : goal.returns-then-folding-most
-returns-then-folding-most c =
-    event_over _ _ _ _ _ _ (rw (c.time_of.ensures, c.event_at-event.ensures) at c.time_passes.ensures)
-    (c.if-not-time_passes.false) (rw c.event_at-event.ensures at c.pieces-folding.ensures) R.EventBudget refl
-    c.in-Done.is c.if-folding-most.true c.refused-then-folding-most.ensures
+pub returns-in_err-pieces-clause-folded : goal.returns-in_err-pieces-clause-folded
+returns-in_err-pieces-clause-folded c =
+    let g = c.args in
+    let p = err_from_is_err_and c.from_residual.result c.from_residual.ensures.1 in
+    rw (p.1, p.2, event_on g.window g.events.now g.event.now g.out.now.items (rw c.time.ensures at c.time_passes.ensures) c.if-not-time_passes.false, ← c.in_err-pieces.ensures.pieces)
 
-pub returns-in-Refused : goal.returns-in-Refused
-returns-in-Refused c =
-    event_refused _ _ _ _ _ _ (rw (c.time_of.ensures, c.event_at-event.ensures) at c.time_passes.ensures)
-    (c.if-not-time_passes.false) (rw c.event_at-event.ensures at c.pieces-folding.ensures)
-    c.in-Refused.refusal c.in-Refused.is c.refused-in-Refused.ensures
+pub returns-then-len-window-clause-folded : goal.returns-then-len-window-clause-folded
+unfolding count_passes
+returns-then-len-window-clause-folded c =
+    let g = c.args in
+    rw (event_on g.window g.events.now g.event.now g.out.now.items (rw c.time.ensures at c.time_passes.ensures) c.if-not-time_passes.false, ← c.in_ok-pieces.ensures.pieces, lt-leb _ _ (rw c.len.ensures.value at c.if-len-window.true))
 
-pub returns-else-folding-most : goal.returns-else-folding-most
-returns-else-folding-most c =
-    event_done _ _ _ _ _ _ (rw (c.time_of.ensures, c.event_at-event.ensures) at c.time_passes.ensures)
-    (c.if-not-time_passes.false) (rw c.event_at-event.ensures at c.pieces-folding.ensures)
-    c.in-Done.is c.if-folding-most.false
+pub returns-clause-folded : goal.returns-clause-folded
+unfolding count_passes
+returns-clause-folded c =
+    let g = c.args in
+    rw (event_on g.window g.events.now g.event.now g.out.now.items (rw c.time.ensures at c.time_passes.ensures) c.if-not-time_passes.false, ← c.in_ok-pieces.ensures.pieces, le-leb _ _ (rw c.len.ensures.value at c.if-len-window.false))

@@ -1,25 +1,30 @@
-use mathlib.Core.Path.{refl}
+-- `fold_events::with_events` meets its contract.
+use native.Mathlib.Numerals.{add-one}
 use native.Mathlib.Omega.{arith}
-use Rattle.fold_event.proofs.Events.{folds-refused, folds-done}
-use Rattle.fold_events.proofs.FoldingLaws.{going_start, going_refused, going_more, going_done}
-use Prim.Native.Nat.{◌-◌}
+use lib.Ieee.{nan}
+use lib.ListN.{drop_of_length-le}
+use lib.Seq.{drop-cons}
+use Rattle.std.proofs.lemmas.Result.{err_from_is_err_and}
+use Rattle.protocol.specs.declared.Event.TheVariants.{Bolus}
+use Rattle.cycle.specs.Fold.{with_events}
 use Rattle.fold_events.proofs.with_events.Goals as goal
 
-pub returns-in-Refused : goal.returns-in-Refused
-returns-in-Refused c =
-    let f = c.with_event-folding.ensures in
-    folds-refused _ _ _ c.in-Refused.refusal f.reals f.words c.refused.ensures
-    (going_refused _ _ _ _ c.loop-i.invariant c.loop-i-test.true f c.in-Refused.refusal
-    c.in-Refused.is)
+pub returns-in_err-with_event : goal.returns-in_err-with_event
+unfolding with_events
+returns-in_err-with_event c =
+    let p = err_from_is_err_and c.from_residual.result c.from_residual.ensures.1 in
+    rw (p.1, p.2)
+    (rw (drop-cons _ _ (Bolus nan 0 nan) c.loop-event-test.true, ← c.in_err-with_event.ensures.folded) at
+    c.loop-event.invariant.1)
 
-pub loop-i-preserved : goal.loop-i-preserved
-loop-i-preserved c = going_more _ _ _ _ c.loop-i.invariant c.loop-i-test.true c.with_event-folding.ensures c.in-Done.is
+pub loop-event-preserved : goal.loop-event-preserved
+unfolding with_events
+loop-event-preserved c = (
+  omega (arith, c.in_ok-with_event.ensures.room),
+  rw add-one (rw (drop-cons _ _ (Bolus nan 0 nan) c.loop-event-test.true, ← c.in_ok-with_event.ensures.folded) at
+      c.loop-event.invariant.1),
+)
 
 pub returns : goal.returns
-returns c =
-    let g =
-    c.loop-i.invariant in folds-done _ _ _ _ g.reals g.words refl (omega (arith, g.room, g.below))
-    (going_done _ _ _ _ g c.loop-i-test.false)
-
-pub loop-i-init : goal.loop-i-init
-loop-i-init c = going_start _ _ _ _ _ _ c.requires.1 c.requires.2
+unfolding with_events
+returns c = rw (drop_of_length-le _ c.loop-event-test.false) at c.loop-event.invariant.1

@@ -1,10 +1,12 @@
--- `fold_events::with_events` meets its contract.
-use Rattle.fold_events.proofs.FoldingLaws.{Going}
-use Prim.Native.Nat.{◌-◌}
+-- `fold_events::with_events` meets its contract. The invariant: the events that are left, behind the list so far, give the whole answer.
+use mathlib.Core.Path.{◌≡◌}
+use mathlib.Core.List.{[]}
+use Prim.Native.Nat.{◌*◌, ◌≤◌}
+use lib.ListN.{length, drop}
+use Rattle.cycle.specs.Fold.{with_events}
 use Rattle.fold_events.proofs.with_events.Given as goal
 
-abbrev pub invariant-loop-i : goal.invariant-loop-i
-invariant-loop-i l = Going l.window l.reals l.words l.count l.i l.at l.out_reals l.out_words
-
-abbrev pub decreases-loop-i : goal.decreases-loop-i
-decreases-loop-i l = l.count - l.i
+abbrev pub invariant-loop-event : goal.invariant-loop-event
+invariant-loop-event l =
+    (length l.list.items ≤ 3 * l.event-index)
+    × (with_events l.window l.events (drop l.event-index l.events) l.list.items ≡ with_events l.window l.events l.events [])

@@ -1,17 +1,15 @@
-use native.Mathlib.Omega.{arith}
-use Prim.Native.Nat.{◌-◌}
-use Rattle.fold_stop.proofs.Loops.{any-start, any_more, any-done}
+-- `fold_stop::has_stop` meets its contract.
+use mathlib.Core.Path.{◌∙◌}
+use borrow.Author.Rules.{rules}
+use borrow.Author.Tests.{tests}
+use Rattle.std.proofs.lemmas.Iterator.{YieldsList-from_slice}
+use Rattle.std.proofs.lemmas.Iterator.Search.{any_from_yields_List}
+use Rattle.cycle.specs.Fold.{stopping}
+use Rattle.fold_stop.proofs.Tests.{any_is}
 use Rattle.fold_stop.proofs.has_stop.Goals as goal
 
-pub loop-k-preserved : goal.loop-k-preserved
-loop-k-preserved c = (
-  omega arith,
-  any_more _ _ _ _ c.loop-k.k c.loop-k.found c.loop-k-test.true
-      (rw c.event_at.ensures at c.stopping-found.ensures) c.loop-k.invariant.1,
-)
-
 pub returns : goal.returns
-returns c = any-done _ _ _ _ c.loop-k.k c.loop-k.found c.loop-k-test.false c.loop-k.invariant.1
-
-pub loop-k-init : goal.loop-k-init
-loop-k-init c = (omega arith, any-start _ _ _ _)
+returns c =
+    any_from_yields_List (stopping c.args.target) _ _ c.any.result c.any.ensures.ran (YieldsList-from_slice c.args.events.now cc)
+    (λ x b q k. search (rules, tests))
+    ∙ any_is (stopping c.args.target) c.args.events.now

@@ -1,17 +1,18 @@
-use native.Mathlib.Omega.{arith}
-use Prim.Native.Nat.{◌-◌}
-use Rattle.fold_stop.proofs.Loops.{stop-start, stop_more, stop-done}
+-- `fold_stop::stop_of` meets its contract.
+use native.Mathlib.Numerals.{add-one}
+use lib.Ieee.{nan}
+use lib.ListN.{drop_of_length-le}
+use lib.Seq.{drop-cons}
+use Rattle.protocol.specs.declared.Event.TheVariants.{Bolus}
+use Rattle.cycle.specs.Fold.{stop_of}
 use Rattle.fold_stop.proofs.stop_of.Goals as goal
 
-pub loop-k-preserved : goal.loop-k-preserved
-loop-k-preserved c = (
-  omega arith,
-  stop_more _ _ _ _ _ _ c.loop-k.k c.loop-k.stop c.loop-k-test.true
-      (rw c.event_at.ensures at c.stopped_by-stop.ensures) c.loop-k.invariant.1,
-)
+pub loop-event-preserved : goal.loop-event-preserved
+unfolding stop_of
+loop-event-preserved c =
+    rw (add-one, c.stopped_by-stop.ensures)
+    (rw (drop-cons _ _ (Bolus nan 0 nan) c.loop-event-test.true) at c.loop-event.invariant)
 
 pub returns : goal.returns
-returns c = stop-done _ _ _ _ _ _ c.loop-k.k c.loop-k.stop c.loop-k-test.false c.loop-k.invariant.1
-
-pub loop-k-init : goal.loop-k-init
-loop-k-init c = (omega arith, stop-start _ _ _ _ _ _ _)
+unfolding stop_of
+returns c = rw (drop_of_length-le _ c.loop-event-test.false) at c.loop-event.invariant

@@ -13,20 +13,20 @@ returns-then-not-inputs_finite c =
       res_after = rw (applied-at _ _ _ _ _ c.inputs_finite.ensures refl refl, c.if-not-inputs_finite.true) refl;
     }
 
-pub returns-then-not-all_pass : goal.returns-then-not-all_pass
-returns-then-not-all_pass c =
+pub returns-then-not-all_nonnegative : goal.returns-then-not-all_nonnegative
+returns-then-not-all_nonnegative c =
     record {
       result_value = rw (
         applied-at _ _ _ _ _ c.inputs_finite.ensures c.amounts_after-list.ensures
-            c.all_pass.ensures,
+            c.all_nonnegative.ensures,
         c.if-not-inputs_finite.false,
-        c.if-not-all_pass.true,
+        c.if-not-all_nonnegative.true,
       ) refl;
       res_after = rw (
         applied-at _ _ _ _ _ c.inputs_finite.ensures c.amounts_after-list.ensures
-            c.all_pass.ensures,
+            c.all_nonnegative.ensures,
         c.if-not-inputs_finite.false,
-        c.if-not-all_pass.true,
+        c.if-not-all_nonnegative.true,
       ) refl;
     }
 
@@ -38,15 +38,15 @@ returns c =
     record {
       result_value = rw (
         applied-at _ _ _ _ _ c.inputs_finite.ensures c.amounts_after-list.ensures
-            c.all_pass.ensures,
+            c.all_nonnegative.ensures,
         c.if-not-inputs_finite.false,
-        c.if-not-all_pass.false,
+        c.if-not-all_nonnegative.false,
       ) refl;
       res_after = rw (
         applied-at _ _ _ _ _ c.inputs_finite.ensures c.amounts_after-list.ensures
-            c.all_pass.ensures,
+            c.all_nonnegative.ensures,
         c.if-not-inputs_finite.false,
-        c.if-not-all_pass.false,
+        c.if-not-all_nonnegative.false,
       ) c.lay.ensures;
     }
 

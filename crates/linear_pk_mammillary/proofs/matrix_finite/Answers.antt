@@ -1,19 +1,18 @@
-use mathlib.Core.Path.{refl}
+-- `linear_pk_mammillary::matrix_finite` meets its contract.
+use mathlib.Core.Path.{refl, ◌∙◌}
+use Prim.Native.Nat.{ℕ}
 use native.Mathlib.Omega.{arith}
-use Prim.Native.Nat.{◌-◌}
-use native.Mathlib.Nat.{le_antisymm}
-use native.Mathlib.Numerals.{add-one}
+use borrow.Author.Rules.{rules}
+use lib.Ieee.Scale.{finite}
+use Rattle.std.proofs.lemmas.Iterator.{YieldsList-from_range}
+use Rattle.std.proofs.lemmas.Iterator.Search.{all_from_yields_List}
+use Rattle.linear_pk_propagator.specs.Propagator.{entry}
 use Rattle.matrix.specs.Matrix.{all_to}
+use Rattle.matrix.proofs.Fronts.{all_range}
 use Rattle.linear_pk_mammillary.proofs.matrix_finite.Goals as goal
 
-pub loop-i-init : goal.loop-i-init
-unfolding all_to
-loop-i-init c = (omega arith, refl)
-
-pub loop-i-preserved : goal.loop-i-preserved
-unfolding all_to
-loop-i-preserved c = (omega arith, rw (add-one, c.row_finite-ok.ensures, c.loop-i.invariant.1))
-
 pub returns : goal.returns
-unfolding all_to
-returns c = rw (le_antisymm c.loop-i.invariant.0 c.loop-i-test.false) at c.loop-i.invariant.1
+returns c =
+    let p = λ (i : ℕ). all_to (λ j. finite (entry c.args.matrix i j)) c.args.n in
+    all_from_yields_List p _ _ c.all.result c.all.ensures.ran (YieldsList-from_range 0 c.args.n c.args.n refl (omega arith)) (λ x b q k. search rules)
+    ∙ all_range p c.args.n

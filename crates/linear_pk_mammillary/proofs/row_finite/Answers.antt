@@ -1,20 +1,18 @@
-use mathlib.Core.Path.{refl}
+-- `linear_pk_mammillary::row_finite` meets its contract.
+use mathlib.Core.Path.{refl, ◌∙◌}
+use Prim.Native.Nat.{ℕ}
 use native.Mathlib.Omega.{arith}
-use Prim.Native.Nat.{◌-◌}
-use native.Mathlib.Nat.{le_antisymm}
-use native.Mathlib.Numerals.{add-one}
+use borrow.Author.Rules.{rules}
+use lib.Ieee.Scale.{finite}
+use Rattle.std.proofs.lemmas.Iterator.{YieldsList-from_range}
+use Rattle.std.proofs.lemmas.Iterator.Search.{all_from_yields_List}
+use Rattle.linear_pk_propagator.specs.Propagator.{entry}
 use Rattle.matrix.specs.Matrix.{all_to}
-use Rattle.linear_pk_interval.specs.Interval.{entry}
+use Rattle.matrix.proofs.Fronts.{all_range}
 use Rattle.linear_pk_mammillary.proofs.row_finite.Goals as goal
 
-pub loop-j-preserved : goal.loop-j-preserved
-unfolding all_to
-loop-j-preserved c = (omega arith, rw (add-one, c.is_finite-ok.ensures, c.entry.ensures, c.loop-j.invariant.1))
-
-pub loop-j-init : goal.loop-j-init
-unfolding all_to
-loop-j-init c = (omega arith, refl)
-
 pub returns : goal.returns
-unfolding all_to
-returns c = rw (le_antisymm c.loop-j.invariant.0 c.loop-j-test.false) at c.loop-j.invariant.1
+returns c =
+    let p = λ (j : ℕ). finite (entry c.args.matrix c.args.i j) in
+    all_from_yields_List p _ _ c.all.result c.all.ensures.ran (YieldsList-from_range 0 c.args.n c.args.n refl (omega arith)) (λ x b q k. search rules)
+    ∙ all_range p c.args.n

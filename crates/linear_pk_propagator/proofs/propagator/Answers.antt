@@ -4,4 +4,4 @@ use Rattle.linear_pk_propagator.proofs.propagator.Goals as goal
 
 pub returns : goal.returns
 unfolding propagator
-returns c = rw (← c.block_of-block.ensures.part) c.exponential.ensures
+returns c = rw (← c.block_of.ensures.part) c.exponential.ensures

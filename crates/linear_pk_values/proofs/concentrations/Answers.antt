@@ -56,24 +56,24 @@ concentration_list-list-requires c = (
 pub slice_bounds-list-end : goal.slice_bounds-list-end
 slice_bounds-list-end c = omega (arith, c.requires.0)
 
-pub returns-then-not-all_pass : goal.returns-then-not-all_pass
-returns-then-not-all_pass c =
+pub returns-then-not-all_finite : goal.returns-then-not-all_finite
+returns-then-not-all_finite c =
     record {
       result_value = rw (
         concentrations-are c.args.n c.args.count c.args.depot c.args.volumes c.args.amounts.now
             (length c.args.res.now) {b = c.amounts_pass.result} c.amounts_pass.ensures
-            c.concentration_list-list.ensures c.all_pass.ensures,
+            c.concentration_list-list.ensures c.all_finite.ensures,
         c.if-not-amounts_pass.false,
         le-leb _ _ c.if-res-count.false,
-        c.if-not-all_pass.true,
+        c.if-not-all_finite.true,
       ) refl;
       res_after = rw (
         concentrations-are c.args.n c.args.count c.args.depot c.args.volumes c.args.amounts.now
             (length c.args.res.now) {b = c.amounts_pass.result} c.amounts_pass.ensures
-            c.concentration_list-list.ensures c.all_pass.ensures,
+            c.concentration_list-list.ensures c.all_finite.ensures,
         c.if-not-amounts_pass.false,
         le-leb _ _ c.if-res-count.false,
-        c.if-not-all_pass.true,
+        c.if-not-all_finite.true,
       ) refl;
     }
 
@@ -86,18 +86,18 @@ returns c =
       result_value = rw (
         concentrations-are c.args.n c.args.count c.args.depot c.args.volumes c.args.amounts.now
             (length c.args.res.now) {b = c.amounts_pass.result} c.amounts_pass.ensures
-            c.concentration_list-list.ensures c.all_pass.ensures,
+            c.concentration_list-list.ensures c.all_finite.ensures,
         c.if-not-amounts_pass.false,
         le-leb _ _ c.if-res-count.false,
-        c.if-not-all_pass.false,
+        c.if-not-all_finite.false,
       ) refl;
       res_after = rw (
         concentrations-are c.args.n c.args.count c.args.depot c.args.volumes c.args.amounts.now
             (length c.args.res.now) {b = c.amounts_pass.result} c.amounts_pass.ensures
-            c.concentration_list-list.ensures c.all_pass.ensures,
+            c.concentration_list-list.ensures c.all_finite.ensures,
         c.if-not-amounts_pass.false,
         le-leb _ _ c.if-res-count.false,
-        c.if-not-all_pass.false,
+        c.if-not-all_finite.false,
       ) c.lay.ensures;
     }
 

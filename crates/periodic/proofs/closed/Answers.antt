@@ -2,36 +2,31 @@
 use mathlib.Core.Bool.{◌&&◌}
 use lib.Dec.{leb}
 use lib.ListN.{length}
-use Rattle.events.specs.Packed.{packed}
-use Rattle.events.proofs.Packing.{packed-length}
+use Rattle.std.proofs.lemmas.Result.{err_from_is_err_and}
 use Rattle.simulation.specs.KernelRun.{propagator_of}
-use Rattle.periodic_acceptance.proofs.Answered.{refuses, answers_as, folded_runs, zeroed_runs, closed-stops, closed_goes}
+use Rattle.periodic_acceptance.proofs.Answered.{refuses, answers_as, folded_runs, closed-stops, closed_goes}
 use Rattle.periodic.proofs.closed.Goals as goal
 
-pub execute_prepared_periodic_steady_state-requires : goal.execute_prepared_periodic_steady_state-requires
-execute_prepared_periodic_steady_state-requires c =
+pub returns-in_err-folded : goal.returns-in_err-folded
+returns-in_err-folded c =
+    let g = c.args in
+    let p = err_from_is_err_and c.from_residual.result c.from_residual.ensures.1 in
+    rw (p.1, p.2)
+    (refuses _ g.amounts.now g.residual.now
+    (closed-stops (propagator_of g.kernel) g.n g.window g.samples.now g.events.now g.tolerance
+    (leb g.n (length g.amounts.now) && leb g.n (length g.residual.now)) c.in_err-folded.ensures))
+
+pub invariant_of-cycle : goal.invariant_of-cycle
+invariant_of-cycle c =
     let g = c.args in
     let h = c.requires in
-    let es = packed g.reals.now g.words.now g.count in
-    let r = rw c.in-Done.is at c.prepare_periodic_steady_state-folding.ensures.count_after in (
-      folded_runs g.kernel g.n g.window g.samples.now es g.tolerance h.0 h.1 r (rw packed-length c.prepare_periodic_steady_state-folding.ensures.count_le_most_events),
-      zeroed_runs g.kernel g.n g.window g.samples.now es g.tolerance h.0 h.1 r (rw packed-length c.prepare_periodic_steady_state-folding.ensures.count_le_most_events),
-      c.prepare_periodic_steady_state-folding.ensures.count_le_most_events,
-    )
+    let d = c.deref.ensures in
+    record { runs = rw d.0 (folded_runs g.kernel g.n g.window g.samples.now g.events.now g.tolerance h.0 h.1 c.in_ok-folded.ensures (rw d.0 at d.1)) }
 
-pub returns-in-Refused : goal.returns-in-Refused
-returns-in-Refused c =
-    let g = c.args in
-    refuses g.amounts.now g.residual.now c.refused.ensures
-    (closed-stops (propagator_of g.kernel) g.n g.window g.samples.now (packed g.reals.now g.words.now g.count)
-    g.tolerance (leb g.n (length g.amounts.now) && leb g.n (length g.residual.now))
-    (rw c.in-Refused.is at c.prepare_periodic_steady_state-folding.ensures.count_after))
-
-pub returns-in-Done : goal.returns-in-Done
-returns-in-Done c =
+pub returns : goal.returns
+returns c =
     let g = c.args in
     answers_as
-    (closed_goes (propagator_of g.kernel) g.n g.window g.samples.now (packed g.reals.now g.words.now g.count)
-    g.tolerance (leb g.n (length g.amounts.now) && leb g.n (length g.residual.now))
-    (rw c.in-Done.is at c.prepare_periodic_steady_state-folding.ensures.count_after))
-    c.execute_prepared_periodic_steady_state.ensures
+    (closed_goes (propagator_of g.kernel) g.n g.window g.samples.now g.events.now g.tolerance
+    (leb g.n (length g.amounts.now) && leb g.n (length g.residual.now)) c.in_ok-folded.ensures)
+    (rw c.deref.ensures.0 at c.execute_prepared_periodic_steady_state.ensures)

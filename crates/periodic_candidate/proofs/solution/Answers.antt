@@ -1,47 +1,47 @@
 -- `periodic_candidate::solution` meets its contract.
-use mathlib.Core.Path.{sym, ◌∙◌}
+use mathlib.Core.Path.{ap, ◌∙◌}
 use lib.Ieee.{of_bits}
-use Rattle.events.specs.Packed.{packed}
+use Rattle.std.proofs.lemmas.Result.{err_from_is_err_and}
 use Rattle.simulation.specs.KernelRun.{propagator_of}
+use Rattle.cycle.specs.Closed.{untimed}
 use Rattle.periodic_candidate.proofs.Chain.{zero_front, solution-stops, columns-stop, solution-solves}
 use Rattle.periodic_candidate.proofs.solution.Goals as goal
 
-pub returns-in-Refused : goal.returns-in-Refused
+pub returns-in_err-offset : goal.returns-in_err-offset
 unfolding of_bits
-returns-in-Refused c =
-    let e = c.not_solved.ensures in
-    let g = c.args in
-    let fs = packed g.reals.now g.words.now g.count in
-    rw (e.0, e.1)
-    (solution-stops (propagator_of g.kernel) g.n g.window fs
-    (rw (c.in-Refused.is, zero_front (propagator_of g.kernel) g.n g.window fs c.requires.0.states) at
-    c.last_of-offset.ensures))
+returns-in_err-offset c =
+    let s = c.args.cycle.now in
+    let p = err_from_is_err_and c.from_residual.result c.from_residual.ensures.1 in
+    rw (p.1, p.2)
+    (solution-stops (propagator_of s.kernel) s.n s.window s.events.now
+    (rw (zero_front (propagator_of s.kernel) s.n s.window s.events.now s.runs.states) at c.in_err-offset.ensures))
 
-pub columns-runs-requires : goal.columns-runs-requires
-columns-runs-requires c = (c.requires.1, c.requires.2, sym c.column_cells-columns.ensures)
-
-pub returns-in-Refused-reply : goal.returns-in-Refused-reply
+pub returns-in_err-columns : goal.returns-in_err-columns
 unfolding of_bits
-returns-in-Refused-reply c =
-    let e = c.not_solved-in-Refused-reply.ensures in
-    let g = c.args in
-    let fs = packed g.reals.now g.words.now g.count in
-    rw (e.0, e.1)
-    (columns-stop (propagator_of g.kernel) g.n g.window fs
-    (rw (c.in-Done.is, zero_front (propagator_of g.kernel) g.n g.window fs c.requires.0.states) at
-    c.last_of-offset.ensures)
-    (rw c.in-Refused-reply.is at c.columns-runs.ensures))
+returns-in_err-columns c =
+    let s = c.args.cycle.now in
+    let p = err_from_is_err_and c.from_residual-in_err-columns.result c.from_residual-in_err-columns.ensures.1 in
+    rw (p.1, p.2)
+    (columns-stop (propagator_of s.kernel) s.n s.window s.events.now
+    (rw (zero_front (propagator_of s.kernel) s.n s.window s.events.now s.runs.states) at c.in_ok-offset.ensures)
+    c.in_err-columns.ensures)
 
-pub returns-in-Done-reply : goal.returns-in-Done-reply
+pub returns-in_err-eliminated : goal.returns-in_err-eliminated
 unfolding of_bits
-returns-in-Done-reply c =
-    let g = c.args in
-    let fs = packed g.reals.now g.words.now g.count in
-    c.eliminated.ensures
-    ∙ solution-solves (propagator_of g.kernel) g.n g.window fs
-    (rw (c.in-Done.is, zero_front (propagator_of g.kernel) g.n g.window fs c.requires.0.states) at
-    c.last_of-offset.ensures)
-    (rw c.in-Done-reply.is at c.columns-runs.ensures)
+returns-in_err-eliminated c =
+    let s = c.args.cycle.now in
+    let p = err_from_is_err_and c.from_residual-in_err-eliminated.result c.from_residual-in_err-eliminated.ensures.1 in
+    rw (p.1, p.2)
+    (ap untimed c.in_err-eliminated.ensures
+    ∙ solution-solves (propagator_of s.kernel) s.n s.window s.events.now
+    (rw (zero_front (propagator_of s.kernel) s.n s.window s.events.now s.runs.states) at c.in_ok-offset.ensures)
+    c.in_ok-columns.ensures)
 
-pub eliminated-requires : goal.eliminated-requires
-eliminated-requires c = c.requires.0.states
+pub returns : goal.returns
+unfolding of_bits
+returns c =
+    let s = c.args.cycle.now in
+    ap untimed c.in_ok-eliminated.ensures
+    ∙ solution-solves (propagator_of s.kernel) s.n s.window s.events.now
+    (rw (zero_front (propagator_of s.kernel) s.n s.window s.events.now s.runs.states) at c.in_ok-offset.ensures)
+    c.in_ok-columns.ensures

@@ -1,14 +1,23 @@
-use mathlib.Core.Path.{sym}
+-- `periodic_inputs::homogeneous` meets its contract.
+use mathlib.Core.List.{append_assoc}
+use native.Mathlib.Numerals.{add-one}
 use native.Mathlib.Omega.{arith}
-use Prim.Native.Nat.{◌-◌}
-use Rattle.periodic_inputs.proofs.Zeroed.{zeroes_more, zeroes_all}
+use lib.Ieee.{nan}
+use lib.ListN.{drop_of_length-le}
+use lib.Seq.{drop-cons}
+use Rattle.std.proofs.lemmas.List.{append-nil}
+use Rattle.protocol.specs.declared.Event.TheVariants.{Bolus}
+use Rattle.cycle.specs.Closed.{homogeneous}
 use Rattle.periodic_inputs.proofs.homogeneous.Goals as goal
 
-pub loop-i-init : goal.loop-i-init
-loop-i-init c = (omega arith, record { rows = sym c.real_cells-zeroed.ensures; held = λ k l. absurd (omega arith) })
-
-pub loop-i-preserved : goal.loop-i-preserved
-loop-i-preserved c = (omega arith, zeroes_more _ _ _ (omega arith) c.loop-i.invariant.1 c.zeroed_row.ensures)
+pub loop-event-preserved : goal.loop-event-preserved
+unfolding homogeneous
+loop-event-preserved c = (
+  omega (arith, c.push.ensures.len),
+  rw (c.push.ensures.items, c.zeroed.ensures, append_assoc, add-one)
+      (rw (drop-cons _ _ (Bolus nan 0 nan) c.loop-event-test.true) at c.loop-event.invariant.1),
+)
 
 pub returns : goal.returns
-returns c = zeroes_all _ _ _ _ c.loop-i-test.false c.loop-i.invariant.1
+unfolding homogeneous
+returns c = rw (drop_of_length-le _ c.loop-event-test.false, append-nil) at c.loop-event.invariant.1

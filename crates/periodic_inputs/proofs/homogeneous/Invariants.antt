@@ -1,10 +1,10 @@
--- `periodic_inputs::homogeneous` meets its contract. The invariant: the first i rows are zeroed.
-use Prim.Native.Nat.{◌≤◌, ◌-◌}
-use Rattle.periodic_inputs.proofs.Zeroed.{Zeroes}
+-- `periodic_inputs::homogeneous` meets its contract. The invariant: what is left, zeroed, behind the list so far is the whole.
+use mathlib.Core.Path.{◌≡◌}
+use mathlib.Core.List.{◌++◌}
+use lib.ListN.{length, drop}
+use Rattle.cycle.specs.Closed.{homogeneous}
 use Rattle.periodic_inputs.proofs.homogeneous.Given as goal
 
-abbrev pub invariant-loop-i : goal.invariant-loop-i
-invariant-loop-i l = (l.i ≤ l.count) × Zeroes l.reals l.zeroed l.i
-
-abbrev pub decreases-loop-i : goal.decreases-loop-i
-decreases-loop-i l = l.count - l.i
+abbrev pub invariant-loop-event : goal.invariant-loop-event
+invariant-loop-event l =
+    (length l.list.items ≡ l.event-index) × (l.list.items ++ homogeneous (drop l.event-index l.events) ≡ homogeneous l.events)

@@ -16,8 +16,8 @@ overflow_sub-result c =
     let m : state_count g.kernel ≤ states = rw q.0 at q.1 in
     omega (
       arith,
-      some_row g.kernel g.window g.events g.count g.amounts.now c.requires.0 c.requires.1 m g.values.now
-          c.requires.2 c.requires.3 c.requires.4 d c.report_of-report.ensures c.simulate.ensures.result_value,
+      some_row g.kernel g.window g.events.now g.amounts.now c.requires.0 m g.values.now
+          c.requires.1 c.requires.2 c.requires.3 d c.report_of-report.ensures c.simulate.ensures.result_value,
     )
 
 pub overflow_mul-result : goal.overflow_mul-result
@@ -28,8 +28,8 @@ overflow_mul-result c =
     let m : state_count g.kernel ≤ states = rw q.0 at q.1 in
     rw q.0 (omega (
       arith,
-      place_fits g.kernel g.window g.events g.count g.amounts.now c.requires.0 c.requires.1 m
-          g.values.now c.requires.2 c.requires.3 c.requires.4 d c.report_of-report.ensures c.simulate.ensures.result_value,
+      place_fits g.kernel g.window g.events.now g.amounts.now c.requires.0 m
+          g.values.now c.requires.1 c.requires.2 c.requires.3 d c.report_of-report.ensures c.simulate.ensures.result_value,
     ))
 
 pub returns : goal.returns
@@ -38,6 +38,6 @@ returns c =
     let q = c.state_count-n.ensures in
     let d = c.divided-span.ensures ∙ ap (λ (j : ℕ). divided j g.window) q.0 in
     let m : state_count g.kernel ≤ states = rw q.0 at q.1 in
-    rw q.0 (cycle-ends g.kernel g.window g.events g.count g.amounts.now c.requires.0 c.requires.1 m g.values.now
-    c.requires.2 c.requires.3 c.requires.4 d c.report_of-report.ensures c.simulate.ensures.result_value
+    rw q.0 (cycle-ends g.kernel g.window g.events.now g.amounts.now c.requires.0 m g.values.now
+    c.requires.1 c.requires.2 c.requires.3 d c.report_of-report.ensures c.simulate.ensures.result_value
     c.simulate.ensures.values_after)

@@ -1,10 +1,10 @@
 -- `periodic_prepared::execute_prepared_periodic_steady_state` meets its contract.
-use mathlib.Core.Path.{◌≡◌, refl}
+use mathlib.Core.Path.{◌≡◌}
 use mathlib.Core.Bool.{true, ◌&&◌}
 use borrow.Author.Tests.{lt-leb, le-leb}
 use lib.Dec.{leb}
 use lib.ListN.{length, take}
-use Rattle.events.specs.Packed.{packed}
+use Rattle.std.proofs.lemmas.Result.{err_from_is_err_and}
 use Rattle.simulation.specs.KernelRun.{propagator_of}
 use Rattle.periodic_acceptance.proofs.Answered.{refuses, solves, room-stops, candidate_none, candidate_some}
 use Rattle.periodic_prepared.proofs.execute_prepared_periodic_steady_state.Goals as goal
@@ -12,60 +12,68 @@ use Rattle.periodic_prepared.proofs.execute_prepared_periodic_steady_state.Goals
 pub returns-then-amounts-n : goal.returns-then-amounts-n
 returns-then-amounts-n c =
     let g = c.args in
-    refuses g.amounts.now g.residual.now c.refused.ensures
-    (room-stops (propagator_of g.kernel) g.n g.window g.tolerance (packed g.reals.now g.words.now g.count)
-    {room = leb g.n (length g.amounts.now) && leb g.n (length g.residual.now)}
-    (rw (lt-leb g.n (length g.amounts.now) c.if-amounts-n.true)))
+    let s = g.cycle.now in
+    refuses c.from.result g.amounts.now g.residual.now
+    (rw c.from.ensures
+    (room-stops (propagator_of s.kernel) s.n s.window g.tolerance s.events.now
+    {room = leb s.n (length g.amounts.now) && leb s.n (length g.residual.now)}
+    (rw (lt-leb s.n (length g.amounts.now) c.if-amounts-n.true))))
 
 pub returns-then-residual-n : goal.returns-then-residual-n
 returns-then-residual-n c =
     let g = c.args in
-    refuses g.amounts.now g.residual.now c.refused-then-residual-n.ensures
-    (room-stops (propagator_of g.kernel) g.n g.window g.tolerance (packed g.reals.now g.words.now g.count)
-    {room = leb g.n (length g.amounts.now) && leb g.n (length g.residual.now)}
-    (rw (le-leb g.n (length g.amounts.now) c.if-amounts-n.false, lt-leb g.n (length g.residual.now) c.if-residual-n.true)))
+    let s = g.cycle.now in
+    refuses c.from-then-residual-n.result g.amounts.now g.residual.now
+    (rw c.from-then-residual-n.ensures
+    (room-stops (propagator_of s.kernel) s.n s.window g.tolerance s.events.now
+    {room = leb s.n (length g.amounts.now) && leb s.n (length g.residual.now)}
+    (rw (le-leb s.n (length g.amounts.now) c.if-amounts-n.false, lt-leb s.n (length g.residual.now) c.if-residual-n.true))))
 
-pub returns-in-Refused : goal.returns-in-Refused
-returns-in-Refused c =
+pub returns-in_err-candidate : goal.returns-in_err-candidate
+returns-in_err-candidate c =
     let g = c.args in
-    let room : leb g.n (length g.amounts.now) && leb g.n (length g.residual.now)
+    let s = g.cycle.now in
+    let p = err_from_is_err_and c.from_residual.result c.from_residual.ensures.1 in
+    let room : leb s.n (length g.amounts.now) && leb s.n (length g.residual.now)
     ≡ true = rw (
-      le-leb g.n (length g.amounts.now) c.if-amounts-n.false,
-      le-leb g.n (length g.residual.now) c.if-residual-n.false,
+      le-leb s.n (length g.amounts.now) c.if-amounts-n.false,
+      le-leb s.n (length g.residual.now) c.if-residual-n.false,
     ) in
-    refuses {x = c.in-Refused.refusal} g.amounts.now g.residual.now refl
-    (candidate_none (propagator_of g.kernel) g.n g.window g.tolerance (packed g.reals.now g.words.now g.count) room
-    (rw c.in-Refused.is at c.solution-found.ensures))
+    rw (p.1, p.2)
+    (refuses _ g.amounts.now g.residual.now
+    (candidate_none (propagator_of s.kernel) s.n s.window g.tolerance s.events.now room c.in_err-candidate.ensures))
 
-pub returns-in-Refused-reply : goal.returns-in-Refused-reply
-returns-in-Refused-reply c =
+pub returns-in_err-acceptance : goal.returns-in_err-acceptance
+returns-in_err-acceptance c =
     let g = c.args in
-    let room : leb g.n (length g.amounts.now) && leb g.n (length g.residual.now)
+    let s = g.cycle.now in
+    let p = err_from_is_err_and c.from_residual-in_err-acceptance.result c.from_residual-in_err-acceptance.ensures.1 in
+    let room : leb s.n (length g.amounts.now) && leb s.n (length g.residual.now)
     ≡ true = rw (
-      le-leb g.n (length g.amounts.now) c.if-amounts-n.false,
-      le-leb g.n (length g.residual.now) c.if-residual-n.false,
+      le-leb s.n (length g.amounts.now) c.if-amounts-n.false,
+      le-leb s.n (length g.residual.now) c.if-residual-n.false,
     ) in
-    refuses {x = c.in-Refused-reply.refusal} g.amounts.now g.residual.now refl
-    (candidate_some (propagator_of g.kernel) g.n g.window g.tolerance (packed g.reals.now g.words.now g.count) room
-    (rw c.in-Done.is at c.solution-found.ensures) (rw c.in-Refused-reply.is at
-    c.accepted-judgement.ensures))
+    rw (p.1, p.2)
+    (refuses _ g.amounts.now g.residual.now
+    (candidate_some (propagator_of s.kernel) s.n s.window g.tolerance s.events.now room
+    c.in_ok-candidate.ensures c.in_err-acceptance.ensures))
 
-pub returns-in-Done-reply : goal.returns-in-Done-reply
-returns-in-Done-reply c =
+pub returns : goal.returns
+returns c =
     let g = c.args in
-    let room : leb g.n (length g.amounts.now) && leb g.n (length g.residual.now)
+    let s = g.cycle.now in
+    let room : leb s.n (length g.amounts.now) && leb s.n (length g.residual.now)
     ≡ true = rw (
-      le-leb g.n (length g.amounts.now) c.if-amounts-n.false,
-      le-leb g.n (length g.residual.now) c.if-residual-n.false,
+      le-leb s.n (length g.amounts.now) c.if-amounts-n.false,
+      le-leb s.n (length g.residual.now) c.if-residual-n.false,
     ) in
-    let j = c.accepted-judgement.result in
+    let j = c.in_ok-acceptance.acceptance in
     solves (record {
-      amounts = take g.n c.solution-found.result.amounts;
-      residuals = take g.n
+      amounts = take s.n c.in_ok-candidate.candidate;
+      residuals = take s.n
           j.residuals;
       maximum = j.maximum;
     }) g.amounts.now g.residual.now
-    (candidate_some (propagator_of g.kernel) g.n g.window g.tolerance (packed g.reals.now g.words.now g.count) room
-    (rw c.in-Done.is at c.solution-found.ensures) (rw c.in-Done-reply.is at
-    c.accepted-judgement.ensures))
-    c.lay.ensures c.lay-in-Done-reply.ensures
+    (candidate_some (propagator_of s.kernel) s.n s.window g.tolerance s.events.now room
+    c.in_ok-candidate.ensures c.in_ok-acceptance.ensures)
+    c.lay.ensures c.lay-2.ensures

@@ -1,50 +1,46 @@
-use mathlib.Core.Path.{refl, sym, ◌∙◌}
-use borrow.Author.Tests.{not-true, not-false}
+-- `periodic_residual::maximum` meets its contract.
+use mathlib.Core.Path.{◌≡◌, refl, sym}
 use native.Mathlib.Omega.{arith}
-use Prim.Native.Nat.{◌-◌}
-use lib.Ieee.{binary64, div, lt, of_bits}
-use mathlib.Core.Bool.{not, ◌&&◌}
-use Rattle.binary64.specs.Doubles.{one}
-use Rattle.cycle.specs.Closed.{checked_maximum_to}
-use Rattle.periodic_residual.proofs.States.{scale-stops, residual-stops, maximum_more, maximum-all}
+use borrow.Author.Rules.{rules}
+use lib.ListN.{length, take, length-append}
+use lib.Seq.{length-take-le}
+use lib.Ieee.{nan, of_bits}
+use Rattle.cycle.specs.Closed.{untimed, checked_maximum_to}
+use Rattle.refusal.specs.Numbers.{outcome_of}
+use Rattle.std.proofs.lemmas.Result.{err_from_is_err_and}
+use Rattle.std.proofs.lemmas.Slice.Zip.{zip_turn, zip_end}
+use Rattle.periodic_residual.proofs.States.{maximum_more, maximum-stops}
 use Rattle.periodic_residual.proofs.maximum.Goals as goal
 
-pub loop-i-init : goal.loop-i-init
+pub loop-from-init : goal.loop-from-init
 unfolding checked_maximum_to of_bits
-loop-i-init c = (omega arith, refl)
+loop-from-init c = refl
 
-pub returns-then-not-is_finite : goal.returns-then-not-is_finite
-returns-then-not-is_finite c =
+pub loop-from-preserved : goal.loop-from-preserved
+loop-from-preserved c =
     let g = c.args in
-    rw c.not_scaled.ensures
-    (scale-stops g.tolerance g.n g.start g.end c.loop-i.i c.loop-i.maximum c.loop-i-test.true
-    c.loop-i.invariant.1 c.scale-divisor.ensures
-    (sym c.is_finite.ensures ∙ c.if-not-is_finite.true))
+    let z = zip_turn (take g.n g.start) (take g.n g.end) c.loop-from.yielded c.into_iter-from-iterator.result c.loop-from.from-iterator c.next.new.self c.next.result
+    (search rules) (search rules) c.loop-from.yielded_by _ c.in-Some.is (search rules) in
+    simp length-append (maximum_more g.tolerance (take g.n g.start) (take g.n g.end) _ c.loop-from.invariant
+    (rw (← z.2 nan, ← z.3 nan) (rw c.in_ok-maximum.was at c.judged.ensures)))
 
-pub returns-then-not-is_finite-scaled : goal.returns-then-not-is_finite-scaled
-unfolding of_bits
-returns-then-not-is_finite-scaled c =
-    let x = div binary64 c.abs.result c.scale-divisor.result in
+pub returns-in_err-maximum : goal.returns-in_err-maximum
+returns-in_err-maximum c =
     let g = c.args in
-    rw c.not_scaled-then-not-is_finite-scaled.ensures
-    (residual-stops g.tolerance g.n g.start g.end c.loop-i.i c.loop-i.maximum c.loop-i-test.true
-    c.loop-i.invariant.1 c.scale-divisor.ensures
-    (sym c.is_finite.ensures ∙ c.if-not-is_finite.false) {x = x}
-    (rw c.abs.ensures) (rw c.is_finite-in-loop-i.ensures at c.if-not-is_finite-scaled.true))
-
-pub loop-i-preserved : goal.loop-i-preserved
-unfolding of_bits
-loop-i-preserved c =
-    let x = div binary64 c.abs.result c.scale-divisor.result in
-    let g = c.args in (
-      omega arith,
-      rw c.max-maximum.ensures
-          (maximum_more g.tolerance g.n g.start g.end c.loop-i.i c.loop-i.maximum c.loop-i-test.true
-          c.loop-i.invariant.1 c.scale-divisor.ensures
-          (sym c.is_finite.ensures ∙ c.if-not-is_finite.false) {x = x}
-          (rw c.abs.ensures) (rw c.is_finite-in-loop-i.ensures at
-          c.if-not-is_finite-scaled.false)),
-    )
+    let p = err_from_is_err_and c.from_residual.result c.from_residual.ensures.1 in
+    let z = zip_turn (take g.n g.start) (take g.n g.end) c.loop-from.yielded c.into_iter-from-iterator.result c.loop-from.from-iterator c.next.new.self c.next.result
+    (search rules) (search rules) c.loop-from.yielded_by _ c.in-Some.is (search rules) in
+    rw (p.1, p.2)
+    (maximum-stops g.tolerance (take g.n g.start) (take g.n g.end) _ c.loop-from.invariant
+    {r = untimed (outcome_of c.judged.result)}
+    (rw (← z.2 nan, ← z.3 nan) c.judged.ensures)
+    (omega (arith, z.0, length-take-le g.n g.start (omega arith)))
+    (rw c.in_err-maximum.was))
 
 pub returns : goal.returns
-returns c = maximum-all _ _ _ _ _ _ c.loop-i.invariant.0 c.loop-i-test.false c.loop-i.invariant.1
+returns c =
+    let g = c.args in
+    let z = zip_end (take g.n g.start) (take g.n g.end) c.loop-from.yielded c.into_iter-from-iterator.result c.loop-from.from-iterator c.next.new.self c.next.result
+    (search rules) (search rules) c.loop-from.yielded_by c.in-None.is (search rules) in
+    let e : length c.loop-from.yielded ≡ g.n = omega (arith, z, length-take-le g.n g.start (omega arith), length-take-le g.n g.end (omega arith)) in
+    rw e at (sym c.loop-from.invariant)

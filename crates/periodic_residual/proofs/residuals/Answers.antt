@@ -1,6 +1,5 @@
 use mathlib.Core.Path.{refl, ap₂, sym}
 use native.Mathlib.Omega.{arith}
-use Prim.Native.Nat.{◌-◌}
 use lib.Seq.{get_or-take}
 use lib.Ieee.{nan, binary64, sub, of_bits}
 use Rattle.matrix.proofs.Filled.{fill, fill_from, fill_more, part_filled}

@@ -1,6 +1,4 @@
 use native.Mathlib.Omega.{arith}
-use native.Mathlib.Nat.{le_antisymm}
-use Prim.Native.Nat.{◌-◌}
 use Rattle.printout_numbers.proofs.Writing.{wrote_both, wrote_none}
 use Rattle.printout_cycle.specs.Lines.{cycle_lines}
 use Rattle.printout_cycle.proofs.Lengths.{lines_length_lem, lines_more}
@@ -8,21 +6,12 @@ use Rattle.printout_cycle.proofs.put_lines.Goals as goal
 
 pub loop-k-init : goal.loop-k-init
 unfolding cycle_lines
-loop-k-init c = (omega arith, wrote_none _ _)
+loop-k-init c = wrote_none _ _
 
 pub cycle_line-place-requires : goal.cycle_line-place-requires
 cycle_line-place-requires c = omega (arith, lines_length_lem c.args.tolerance c.loop-k.k c.args.starts.now c.args.ends.now (omega arith) (omega arith))
 
 pub loop-k-preserved : goal.loop-k-preserved
 loop-k-preserved c =
-    let l = c.loop-k in (
-      omega arith,
-      rw (lines_more c.args.tolerance l.k c.args.starts.now c.args.ends.now (omega arith) (omega arith)) at
-          (wrote_both l.invariant.1 c.cycle_line-place.ensures),
-    )
-
-pub shape_of-out : goal.shape_of-out
-shape_of-out c = c.loop-k.invariant.1.same
-
-pub returns : goal.returns
-returns c = rw (le_antisymm c.loop-k.invariant.0 c.loop-k-test.false) at c.loop-k.invariant.1
+    rw (lines_more c.args.tolerance c.loop-k.k c.args.starts.now c.args.ends.now (omega arith) (omega arith)) at
+    (wrote_both c.loop-k.invariant c.cycle_line-place.ensures)

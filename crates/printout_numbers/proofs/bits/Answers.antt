@@ -1,18 +1,19 @@
 -- `printout_numbers::bits` meets its contract.
-use lib.Ieee.{to_bits}
-use Rattle.binary64.proofs.Tests.{is_nan_lem, is_real}
+use mathlib.Core.Path.{◌≡◌, refl, sym, ◌∙◌}
+use mathlib.Core.Bool.{true}
+use lib.Ieee.{Float, nan, inf, fin, is_nan, to_bits}
 use Rattle.printout_numbers.specs.Digits.{bits_of}
-use borrow.Author.Rules.{rules}
 use Rattle.printout_numbers.proofs.bits.Goals as goal
 
-pub returns-then-x : goal.returns-then-x
-unfolding bits_of to_bits
-returns-then-x c = rw (is_nan_lem c.args.x c.if-x.true)
+one_nan : (x : Float) → is_nan x ≡ true → 0x7ff8000000000000 ≡ bits_of x
+unfolding is_nan bits_of to_bits
+one_nan nan e = refl
+one_nan (inf s) e = absurd (cc)
+one_nan (fin s m x) e = absurd (cc)
 
-pub float_to_bits-result : goal.float_to_bits-result
-unfolding bits_of to_bits
-float_to_bits-result c = is_real c.args.x c.if-x.false
+pub returns-then-is_nan : goal.returns-then-is_nan
+returns-then-is_nan c = one_nan c.args.x (sym c.is_nan.ensures.value ∙ c.if-is_nan.true)
 
-pub returns : goal.returns
-unfolding bits_of to_bits
-returns c = search rules
+pub returns-else-is_nan : goal.returns-else-is_nan
+unfolding bits_of
+returns-else-is_nan c = refl

@@ -1,23 +1,18 @@
-use mathlib.Core.Path.{refl}
+-- `printout_numbers::places` meets its contract.
+use mathlib.Core.Path.{◌≡◌, sym, ◌∙◌}
 use native.Mathlib.Omega.{arith}
-use Rattle.printout_numbers.proofs.Counts.{places-end, places-last, places_more}
+use Prim.Native.Nat.{ℕ, zero, suc, max}
+use Rattle.printout_numbers.specs.Digits.{places}
+use Rattle.printout_numbers.proofs.Counts.{places-last, places_of_power}
 use Rattle.printout_numbers.proofs.places.Goals as goal
 
-pub returns-then-left-lt10 : goal.returns-then-left-lt10
-returns-then-left-lt10 c = omega (arith, places-last c.loop-most.most c.loop-most.left c.if-left-lt10.true)
-
-pub loop-most-preserved : goal.loop-most-preserved
-loop-most-preserved c = (
-  omega arith,
-  omega (
-    arith,
-    places_more c.loop-most.most c.loop-most.left c.if-left-lt10.false
-        c.loop-most-test.true,
-  ),
-)
-
-pub loop-most-init : goal.loop-most-init
-loop-most-init c = (omega arith, refl)
+-- 0 has as many digits as 1
+at_least_one : (w v : ℕ) → v ≡ max w 1 → places 19 v ≡ places 19 w
+at_least_one zero v e = places-last 19 v (omega arith) ∙ sym (places-last 19 0 (omega arith))
+at_least_one (suc w) v e = let same : v ≡ suc w = omega arith in rw same
 
 pub returns : goal.returns
-returns c = omega (arith, places-end c.loop-most.most c.loop-most.left c.loop-most-test.false)
+returns c =
+    let k = c.ilog10.result in
+    let v = c.max.result in
+    sym (places_of_power k 19 v (omega arith) c.ilog10.ensures.power_le c.ilog10.ensures.next_power_gt) ∙ at_least_one c.args.word v c.max.ensures

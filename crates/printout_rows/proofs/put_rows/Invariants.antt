@@ -1,11 +1,7 @@
 -- `printout_rows::put_rows` meets its contract. The invariant: the first k lines are written.
-use Prim.Native.Nat.{◌-◌, ◌≤◌}
 use Rattle.printout_rows.specs.Rows.{row_lines}
 use Rattle.printout_numbers.specs.Written.{Wrote}
 use Rattle.printout_rows.proofs.put_rows.Given as goal
 
 abbrev pub invariant-loop-k : goal.invariant-loop-k
-invariant-loop-k l = (l.k ≤ l.rows) × Wrote (row_lines l.n l.k l.times l.sides l.values) l.at l.initial.out l.place l.out
-
-abbrev pub decreases-loop-k : goal.decreases-loop-k
-decreases-loop-k l = l.rows - l.k
+invariant-loop-k l = Wrote (row_lines l.n l.k l.times l.sides l.values) l.at l.initial.out l.place l.out

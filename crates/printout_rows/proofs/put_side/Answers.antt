@@ -2,17 +2,11 @@
 use borrow.Author.Tests.{eq-eqb, ne_eqb}
 use Rattle.printout_rows.specs.Row.{side_text}
 use Rattle.printout_rows.proofs.put_side.Goals as goal
+use Rattle.printout_rows.proofs.put_side.Goals.{then-side-eq1, else-side-eq1}
 
-pub put_text-requires : goal.put_text-requires
-put_text-requires c = rw (eq-eqb _ _ c.if-side-eq1.true) at c.requires
-
-pub put_text-requires-else-side-eq1 : goal.put_text-requires-else-side-eq1
-put_text-requires-else-side-eq1 c = rw (ne_eqb _ _ c.if-side-eq1.false) at c.requires
-
-pub returns-then-side-eq1 : goal.returns-then-side-eq1
+pub returns : goal.returns
 unfolding side_text
-returns-then-side-eq1 c = rw (eq-eqb _ _ c.if-side-eq1.true) c.put_text.ensures
-
-pub returns-else-side-eq1 : goal.returns-else-side-eq1
-unfolding side_text
-returns-else-side-eq1 c = rw (ne_eqb _ _ c.if-side-eq1.false) c.put_text-else-side-eq1.ensures
+returns c = elim c.if-side-eq1.branch [
+  | then-side-eq1 w ↦ rw (eq-eqb _ _ w.if-side-eq1.true) (rw w.put_text-is at c.put_text.ensures)
+  | else-side-eq1 w ↦ rw (ne_eqb _ _ w.if-side-eq1.false) (rw w.put_text-is at c.put_text.ensures)
+]

@@ -6,7 +6,4 @@ use Rattle.printout_steady.specs.SteadyPrintout.{state_lines}
 use Rattle.printout_steady.proofs.put_states.Given as goal
 
 abbrev pub invariant-loop-k : goal.invariant-loop-k
-invariant-loop-k l = (l.k ≤ l.n) × Wrote (state_lines (take l.k l.amounts) (take l.k l.residual)) 0 l.initial.out l.place l.out
-
-abbrev pub decreases-loop-k : goal.decreases-loop-k
-decreases-loop-k l = l.n - l.k
+invariant-loop-k l = Wrote (state_lines (take l.k l.amounts) (take l.k l.residual)) 0 l.initial.out l.place l.out

@@ -1,7 +1,7 @@
 -- `rig_steady_sheet::steady_sheet` meets its contract.
 use mathlib.Core.Path.{ap}
 use Rattle.printout.proofs.Replies.{prints_same}
-use Rattle.sheet_kernel.proofs.Kernels.{inside, kernel-sound, readable}
+use Rattle.sheet_kernel.proofs.Kernels.{kernel_read, inside, kernel-sound, readable}
 use Rattle.sheet_kernel.proofs.Cycles.{bytes_refused, bytes_run}
 use Rattle.printout_steady.specs.SteadyPrintout.{steady_text}
 use Rattle.printout_steady.specs.SteadyReplies.{steady_printout}
@@ -9,37 +9,33 @@ use Rattle.rig_steady_cycle.specs.SheetCycle.{steady_with}
 use Rattle.rig_steady_sheet.specs.SteadySheet.{steady_sheet, steady_of_bytes}
 use Rattle.rig_steady_sheet.proofs.steady_sheet.Goals as goal
 
-pub returns-in-Refused : goal.returns-in-Refused
+pub returns-in-Err : goal.returns-in-Err
 unfolding steady_of_bytes steady_sheet steady_text
-returns-in-Refused c =
-    let read = c.read_kernel-read.ensures in
-    let p = prints_same (ap steady_printout (bytes_refused steady_with read c.in-Refused.is)) c.print_refusal.ensures in record {
+returns-in-Err c =
+    let p = prints_same (ap steady_printout (bytes_refused steady_with _ c.in-Err.ensures)) c.print_refusal.ensures in record {
       reply_value = p.number;
       length_value = p.length;
       out_after = p.cells;
     }
 
 pub body-requires : goal.body-requires
-body-requires c = (inside c.read_kernel-read.ensures c.in-Done.is).window
+body-requires c = (inside (kernel_read c.in-Ok.ensures)).window
 
-pub body-requires-in-Done : goal.body-requires-in-Done
-body-requires-in-Done c = (inside c.read_kernel-read.ensures c.in-Done.is).samples
+pub body-requires-in-Ok : goal.body-requires-in-Ok
+body-requires-in-Ok c = (inside (kernel_read c.in-Ok.ensures)).samples
 
-pub body-requires-in-Done-2 : goal.body-requires-in-Done-2
-body-requires-in-Done-2 c = (inside c.read_kernel-read.ensures c.in-Done.is).events
+pub body-requires-in-Ok-2 : goal.body-requires-in-Ok-2
+body-requires-in-Ok-2 c = (inside (kernel_read c.in-Ok.ensures)).events
 
 pub steady_bodies-requires : goal.steady_bodies-requires
 steady_bodies-requires c =
-    let read = c.read_kernel-read in
-    let told = c.in-Done.is in
-    (kernel-sound read.ensures told, readable read.ensures told c.body.ensures c.body-in-Done.ensures c.body-in-Done-2.ensures)
+    (kernel-sound (kernel_read c.in-Ok.ensures), readable (kernel_read c.in-Ok.ensures) c.body.ensures c.body-in-Ok.ensures c.body-in-Ok-2.ensures)
 
-pub returns-in-Done : goal.returns-in-Done
+pub returns-in-Ok : goal.returns-in-Ok
 unfolding steady_of_bytes steady_sheet
-returns-in-Done c =
-    let read = c.read_kernel-read in
-    let e = bytes_run steady_with read.ensures c.in-Done.is
-    c.body.ensures c.body-in-Done.ensures c.body-in-Done-2.ensures in
+returns-in-Ok c =
+    let e = bytes_run steady_with (kernel_read c.in-Ok.ensures)
+    c.body.ensures c.body-in-Ok.ensures c.body-in-Ok-2.ensures in
     let p = prints_same (ap steady_printout e) c.steady_bodies.ensures in record {
       reply_value = p.number;
       length_value = p.length;

@@ -10,16 +10,14 @@ returns-then-start-eq0 c =
     λ d. rw (c.stopped_by.ensures, c.past_advance-next.ensures)
     (arrive-spent g.start d g.t (take g.n g.rates) g.u c.if-start-eq0.true)
 
-pub returns-in-Refused : goal.returns-in-Refused
-returns-in-Refused c =
+pub returns-in-Err : goal.returns-in-Err
+returns-in-Err c =
     let g = c.args in
-    λ d. rw (c.stopped_by-in-Refused.ensures, c.past_advance-next.ensures)
-    (arrive-refused g.start d g.t (take g.n g.rates) g.u c.propagate-m.result
-    (omega (arith, c.if-start-eq0.false)) c.propagate-m.ensures _ c.in-Refused.is)
+    λ d. rw (c.stopped_by-in-Err.ensures, c.past_advance-next.ensures)
+    (arrive-refused g.start d g.t (take g.n g.rates) g.u (omega (arith, c.if-start-eq0.false)) c.propagate.ensures _ c.in-Err.is)
 
-pub returns-in-Done : goal.returns-in-Done
-returns-in-Done c =
+pub returns-in-Ok : goal.returns-in-Ok
+returns-in-Ok c =
     let g = c.args in
     λ d. rw (c.with_amounts.ensures, c.past_advance-next.ensures)
-    (arrive-done g.start d g.t (take g.n g.rates) g.u c.propagate-m.result
-    (omega (arith, c.if-start-eq0.false)) c.propagate-m.ensures c.in-Done.is)
+    (arrive-done g.start d g.t (take g.n g.rates) g.u (omega (arith, c.if-start-eq0.false)) c.propagate.ensures _ c.in-Ok.is)

@@ -1,8 +1,9 @@
 -- `rows::propagate` meets its contract.
-use mathlib.Core.Path.{sym}
 use native.Mathlib.Omega.{arith}
 use lib.ListN.{take}
 use lib.Seq.{length-take-le}
+use Rattle.std.specs.Prelude.{Ok, Err}
+use Rattle.std.proofs.lemmas.Result.{err_from_is_err_and}
 use Rattle.rows.proofs.Kernel.{advance_moves}
 use Rattle.rows.proofs.propagate.Goals as goal
 
@@ -10,14 +11,11 @@ pub returns : goal.returns
 returns c =
     let g = c.args in
     advance_moves g.kernel g.n (take g.n g.amounts) (take g.n g.rates) g.duration _ (length-take-le _ _ (omega arith))
-    (length-take-le g.n g.amounts (omega arith)) c.advance-reply.result c.advance-reply.ensures.result_value _ _ _
-    (length-take-le _ _ (omega arith)) c.advance-reply.ensures.res_after
+    (length-take-le g.n g.amounts (omega arith)) (Ok tt) c.in_ok-advance.ensures.result_value _ _ _ (length-take-le _ _ (omega arith)) c.in_ok-advance.ensures.res_after
 
-pub slice_bounds-from-end : goal.slice_bounds-from-end
-slice_bounds-from-end c = sym (length-take-le _ c.args.amounts (omega arith))
-
-pub slice_bounds-input-end : goal.slice_bounds-input-end
-slice_bounds-input-end c = sym (length-take-le _ c.args.rates (omega arith))
-
-pub slice_bounds-advance-end : goal.slice_bounds-advance-end
-slice_bounds-advance-end c = sym (length-take-le _ _ (omega arith))
+pub returns-in_err-advance : goal.returns-in_err-advance
+returns-in_err-advance c =
+    let g = c.args in
+    let p = err_from_is_err_and c.from_residual.result c.from_residual.ensures.1 in
+    rw (p.1, p.2) (advance_moves g.kernel g.n (take g.n g.amounts) (take g.n g.rates) g.duration _ (length-take-le _ _ (omega arith))
+    (length-take-le g.n g.amounts (omega arith)) (Err c.in_err-advance.field-0.0) c.in_err-advance.ensures.result_value _ _ c.args.amounts (length-take-le _ _ (omega arith)) c.in_err-advance.ensures.res_after)

@@ -13,8 +13,8 @@ use Rattle.rows_interval.proofs.on_interval.Goals as goal
 pub slice_bounds-rates-end : goal.slice_bounds-rates-end
 slice_bounds-rates-end c = omega (arith, c.requires.states)
 
-pub slice_bounds-summed-end : goal.slice_bounds-summed-end
-slice_bounds-summed-end c = sym (length-take-le _ c.args.rates (omega (arith, c.requires.states)))
+pub slice_bounds-all_finite-end : goal.slice_bounds-all_finite-end
+slice_bounds-all_finite-end c = sym (length-take-le _ c.args.rates (omega (arith, c.requires.states)))
 
 pub returns-then-not-all_finite : goal.returns-then-not-all_finite
 unfolding of_bits

@@ -1,27 +1,26 @@
 use mathlib.Core.Path.{sym, ◌∙◌}
-use Prim.Native.Nat.{◌-◌}
 use Rattle.rows.proofs.Parts.{fits_fresh, ran-fresh, ran-same}
 use Rattle.rows_interval.proofs.Readings.{through_none, through_all, through_early, through_late, through_fits, through_stops, through_more}
 use Rattle.rows_interval.proofs.read_all.Goals as goal
 use Rattle.rows_interval.proofs.read_all.Goals.{then-t-s+then-s-u+else-stopped, then-t-s+else-s-u, else-t-s}
 
-pub loop-k-init : goal.loop-k-init
-loop-k-init c = through_none c.args.start c.resumed-p.ensures
+pub loop-s-init : goal.loop-s-init
+loop-s-init c = through_none c.args.start c.resumed-p.ensures
 
 pub read-q-requires : goal.read-q-requires
 read-q-requires c =
-    through_fits c.loop-k.invariant c.loop-k-test.true c.if-t-s.true c.if-s-u.true
+    through_fits c.loop-s.invariant c.loop-s-test.true c.if-t-s.true c.if-s-u.true
     (fits_fresh c.args.start c.resumed-p.ensures c.requires)
 
 pub returns-then-stopped : goal.returns-then-stopped
 returns-then-stopped c =
-    ran-fresh c.args.start c.resumed-p.ensures (through_stops c.loop-k.invariant c.loop-k-test.true
+    ran-fresh c.args.start c.resumed-p.ensures (through_stops c.loop-s.invariant c.loop-s-test.true
     c.if-t-s.true c.if-s-u.true c.read-q.ensures (sym c.stopped.ensures ∙ c.if-stopped.true))
 
-pub loop-k-preserved : goal.loop-k-preserved
-loop-k-preserved c =
-    let h = c.loop-k.invariant in
-    let k = c.loop-k-test.true in
+pub loop-s-preserved : goal.loop-s-preserved
+loop-s-preserved c =
+    let h = c.loop-s.invariant in
+    let k = c.loop-s-test.true in
     elim c.if-t-s.branch [
       | then-t-s+then-s-u+else-stopped w ↦ rw (w.times-is, w.sides-is, w.values-is, w.p-is)
           (through_more h k w.if-t-s.true w.if-s-u.true w.read-q.ensures (sym w.stopped.ensures ∙ w.if-stopped.false))
@@ -30,7 +29,7 @@ loop-k-preserved c =
     ]
 
 pub returns : goal.returns
-returns c = ran-fresh c.args.start c.resumed-p.ensures (through_all c.loop-k.invariant c.loop-k-test.false)
+returns c = ran-fresh c.args.start c.resumed-p.ensures (through_all c.loop-s.invariant c.loop-s-test.false)
 
 pub shape_of-times-then-stopped : goal.shape_of-times-then-stopped
 shape_of-times-then-stopped c = (ran-same (returns-then-stopped c)).times
@@ -42,10 +41,10 @@ pub shape_of-values-then-stopped : goal.shape_of-values-then-stopped
 shape_of-values-then-stopped c = (ran-same (returns-then-stopped c)).values
 
 pub shape_of-times : goal.shape_of-times
-shape_of-times c = (ran-same c.loop-k.invariant.ran).times
+shape_of-times c = (ran-same c.loop-s.invariant.ran).times
 
 pub shape_of-sides : goal.shape_of-sides
-shape_of-sides c = (ran-same c.loop-k.invariant.ran).sides
+shape_of-sides c = (ran-same c.loop-s.invariant.ran).sides
 
 pub shape_of-values : goal.shape_of-values
-shape_of-values c = (ran-same c.loop-k.invariant.ran).values
+shape_of-values c = (ran-same c.loop-s.invariant.ran).values

@@ -1,7 +1,7 @@
 use mathlib.Core.Path.{◌≡◌, refl, ap, ◌∙◌}
 use native.Mathlib.Omega.{arith}
 use native.Mathlib.Numerals.{add-one}
-use Prim.Native.Nat.{ℕ, ◌-◌}
+use Prim.Native.Nat.{ℕ}
 use lib.Ieee.{of_bits}
 use Rattle.matrix.specs.Matrix.{tabulate, tabulate_from}
 use Rattle.events_layout.specs.Layout.{event_count, event_of, events_of}
@@ -26,5 +26,4 @@ unfolding of_bits ordered_from tabulate tabulate_from
 loop-i-init c = (omega arith, refl)
 
 pub event_of-requires : goal.event_of-requires
-unfolding of_bits ordered_from tabulate tabulate_from
-event_of-requires c = omega arith
+event_of-requires c = let w = words-length c.args.events.now in omega arith

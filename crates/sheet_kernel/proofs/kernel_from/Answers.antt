@@ -5,21 +5,11 @@ use Rattle.sheet_kernel.proofs.kernel_from.Goals as goal
 pub returns : goal.returns
 unfolding model_of
 returns c =
-    record {
-      kernel_value = rw (
-        c.double.ensures,
-        c.doubles.ensures,
-        c.doubles-2.ensures,
-        c.absorption_of.ensures,
-        c.requires.0,
-        c.requires.1,
-      ) at c.new.ensures.kernel_value;
-      kernel_value_2 = rw (
-        c.double.ensures,
-        c.doubles.ensures,
-        c.doubles-2.ensures,
-        c.absorption_of.ensures,
-        c.requires.0,
-        c.requires.1,
-      ) at c.new.ensures.kernel_value_2;
-    }
+    rw (
+      c.double.ensures,
+      c.doubles.ensures,
+      c.doubles-2.ensures,
+      c.absorption_of.ensures,
+      c.requires.0,
+      c.requires.1,
+    ) at c.new.ensures

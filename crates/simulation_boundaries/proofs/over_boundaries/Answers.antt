@@ -1,22 +1,19 @@
-use mathlib.Core.Path.{◌≡◌, refl, sym, ◌∙◌}
+use mathlib.Core.Path.{◌≡◌, sym, ◌∙◌}
 use native.Mathlib.Omega.{arith}
 use Prim.Native.Nat.{◌-◌}
 use lib.ListN.{length}
-use Rattle.events.specs.Packed.{packed}
+use lib.Seq.{length-take-le}
 use Rattle.rows.specs.Standing.{kernel_advance}
 use Rattle.rows.proofs.Parts.{ran-fresh, ran-same}
-use Rattle.events.proofs.Packing.{packed-length}
 use Rattle.simulation_boundaries.proofs.Boundaries.{going_start, end-room, end-ran, here_room, here_stopped, code_room}
 use Rattle.simulation_boundaries.proofs.Boundaries.{code_stopped, code_going, marks_none}
 use Rattle.simulation_boundaries.proofs.over_boundaries.Goals as goal
 
 pub loop-b-init : goal.loop-b-init
 loop-b-init c = (
-  going_start _ _ _ _ _ _ _ c.args.start c.resumed-p.ensures c.requires.1 (marks_none
-      (packed c.args.reals.now c.args.words.now c.args.count) c.args.count
-      (packed-length c.args.reals.now c.args.words.now c.args.count) c.requires.0) c.requires.2,
+  going_start _ _ _ _ _ _ _ c.args.start c.resumed-p.ensures c.requires.1 (marks_none c.args.events.now c.requires.0) c.requires.2,
   omega arith,
-  refl,
+  length-take-le _ _ c.requires.0,
 )
 
 pub at_boundary-q-requires : goal.at_boundary-q-requires
@@ -29,30 +26,30 @@ returns-then-stopped c =
     (c.at_boundary-q.ensures (kernel_advance c.args.kernel c.args.n)) (sym c.stopped.ensures ∙ c.if-stopped.true))
 
 pub summed_rates-rates-requires : goal.summed_rates-rates-requires
-summed_rates-rates-requires c = (c.requires.0, c.requires.2.states, c.mark.ensures.0 ∙ c.loop-b.invariant.2)
+summed_rates-rates-requires c = c.requires.2.states
 
 pub on_interval-s-requires : goal.on_interval-s-requires
 on_interval-s-requires c =
     code_room _ _ _ _ _ _ _ _ _ _ _ c.loop-b.invariant.0 (omega (arith, c.loop-b-test.true))
-    (c.at_boundary-q.ensures (kernel_advance c.args.kernel c.args.n)) c.mark.ensures.1
+    (c.at_boundary-q.ensures (kernel_advance c.args.kernel c.args.n)) c.mark.ensures
     c.summed_rates-rates.ensures
 
 pub returns-then-stopped-2 : goal.returns-then-stopped-2
 returns-then-stopped-2 c =
     ran-fresh c.args.start c.resumed-p.ensures (code_stopped _ _ _ _ _ _ _ _ _ _ _ c.loop-b.invariant.0
     (omega (arith, c.loop-b-test.true, c.requires.1))
-    (c.at_boundary-q.ensures (kernel_advance c.args.kernel c.args.n)) c.mark.ensures.1
+    (c.at_boundary-q.ensures (kernel_advance c.args.kernel c.args.n)) c.mark.ensures
     c.summed_rates-rates.ensures (sym c.stopped.ensures ∙ c.if-stopped.false)
     c.on_interval-s.ensures (sym c.stopped-in-loop-b.ensures ∙ c.if-stopped-2.true))
 
 pub loop-b-preserved : goal.loop-b-preserved
 loop-b-preserved c = (
   code_going _ _ _ _ _ _ _ _ _ _ _ c.loop-b.invariant.0 (omega (arith, c.loop-b-test.true, c.requires.1))
-      (c.at_boundary-q.ensures (kernel_advance c.args.kernel c.args.n)) c.mark.ensures.1
+      (c.at_boundary-q.ensures (kernel_advance c.args.kernel c.args.n)) c.mark.ensures
       c.summed_rates-rates.ensures (sym c.stopped.ensures ∙ c.if-stopped.false)
       c.on_interval-s.ensures (sym c.stopped-in-loop-b.ensures ∙ c.if-stopped-2.false),
   omega (arith, c.loop-b-test.true, c.requires.1),
-  c.mark.ensures.0 ∙ c.loop-b.invariant.2,
+  c.mark.auto.marks ∙ c.loop-b.invariant.2,
 )
 
 pub at_boundary-requires : goal.at_boundary-requires

@@ -1,17 +1,12 @@
 -- `simulation_boundaries::over_boundaries` meets its contract. The invariant: what has run so far, and what is left of the schedule.
 use mathlib.Core.Path.{◌≡◌}
-use Prim.Native.Nat.{◌≤◌, ◌-◌}
-use lib.ListN.{length, take}
-use Rattle.limits.specs.Limits.{most_events}
-use Rattle.events.specs.Packed.{packed}
+use Prim.Native.Nat.{◌≤◌}
+use lib.ListN.{length}
 use Rattle.rows.specs.Written.{cells}
 use Rattle.rows.specs.Standing.{kernel_advance}
 use Rattle.simulation_boundaries.proofs.Boundaries.{Going}
 use Rattle.simulation_boundaries.proofs.over_boundaries.Given as goal
 
 abbrev pub invariant-loop-b : goal.invariant-loop-b
-invariant-loop-b l = Going (kernel_advance l.kernel l.n) l.n (packed l.reals l.words l.count) l.samples l.bounds l.initial.p (cells l.initial.times l.initial.sides l.initial.values) (take l.count l.marks) l.p
-    (cells l.times l.sides l.values) l.b × (l.b ≤ l.last) × (length l.marks ≡ most_events)
-
-abbrev pub decreases-loop-b : goal.decreases-loop-b
-decreases-loop-b l = l.last - l.b
+invariant-loop-b l = Going (kernel_advance l.kernel l.n) l.n l.events l.samples l.bounds l.initial.p (cells l.initial.times l.initial.sides l.initial.values) l.marks l.p
+    (cells l.times l.sides l.values) l.b × (l.b ≤ l.last) × (length l.marks ≡ length l.events)

@@ -1,17 +1,15 @@
--- `simulation_matrix::distinct` meets its contract.
-use mathlib.Core.Path.{sym, ◌∙◌}
+use mathlib.Core.Path.{◌≡◌, ap, ◌∙◌}
 use borrow.Author.Rules.{rules}
+use lib.ListN.{take, length}
 use native.Mathlib.Omega.{arith}
-use lib.ListN.{length, drop, length-append}
-use lib.Seq.{take-append-le, length-take-le}
-use Rattle.simulation_matrix.proofs.Whole.{front}
+use Rattle.std.proofs.Common.{take_all}
+use Rattle.arrayvec.proofs.ArrayVecLemmas.{items-with_items}
 use Rattle.simulation_matrix.proofs.distinct.Goals as goal
 
 pub returns : goal.returns
 returns c =
-    let w = c.sorted_unique.ensures in
-    let f = front c.args.samples.now (drop (length c.args.samples.now) c.args.readings.now) c.lay.ensures in
-    (simp length-append (omega (arith, w.0)), take-append-le _ _ _ w.0 ∙ rw f at w.1, rw f at w.2)
-
-pub slice_bounds-sorted_unique-end-2 : goal.slice_bounds-sorted_unique-end-2
-slice_bounds-sorted_unique-end-2 c = sym (length-take-le _ _ (search rules))
+    let k = c.sorted_unique-kept in
+    let l = c.loop-sample in
+    let i : l.sample-index ≡ length c.args.samples.now = omega arith in
+    let e : c.as_mut_slice.result.now ≡ c.args.samples.now = c.as_mut_slice.ensures.value ∙ l.invariant ∙ rw i (take_all (length c.args.samples.now) c.args.samples.now (omega arith)) in
+    (c.truncate.ensures.items ∙ ap (take k.result) (items-with_items l.readings k.new.a (search rules)) ∙ rw e at k.ensures.1, rw e at k.ensures.2)

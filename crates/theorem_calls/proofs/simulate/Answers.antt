@@ -1,7 +1,6 @@
 -- `simulate` ensures demand 3 of its call.
 use borrow.Author.Rules.{rules}
-use Rattle.limits.specs.Limits.{most_events}
-use Rattle.theorem_calls.proofs.Doubles.{times_fit, each_fits}
+use Rattle.theorem_calls.proofs.Doubles.{each_fits}
 use Rattle.theorem_calls.proofs.Calls.{simulated}
 use Rattle.theorem_calls.proofs.simulate.Goals as goal
 
@@ -15,5 +14,5 @@ returns c =
       start_fits = search rules;
       end_fits = search rules;
       samples_fit = each_fits g.samples.now known;
-      times_fit = times_fit most_events g.count g.events _ c.well_formed.1.1.1.0;
+      times_fit = c.read_times.ensures;
     })

@@ -1,5 +1,5 @@
 -- `events_at::instants::happens_at` meets its contract.
-use Rattle.events.proofs.Scans.{or_none}
+use Rattle.events_times.proofs.Either.{or_none}
 use Rattle.events_at.proofs.instants.happens_at.Goals as goal
 
 pub returns-in-Bolus : goal.returns-in-Bolus

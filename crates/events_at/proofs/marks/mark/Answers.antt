@@ -1,30 +1,24 @@
-use mathlib.Core.Path.{sym, ◌∙◌}
+use mathlib.Core.Path.{sym, ◌≡◌, ◌∙◌}
 use native.Mathlib.Omega.{arith}
-use Prim.Native.Nat.{◌-◌}
+use lib.ListN.{length}
 use Rattle.events_at.proofs.Marking.{behind-start, behind_skip, behind_more, behind-all}
 use Rattle.events_at.proofs.marks.mark.Goals as goal
 use Rattle.events_at.proofs.marks.mark.Goals.{then-stops_at, else-stops_at}
 
-pub loop-i-preserved : goal.loop-i-preserved
-loop-i-preserved c =
+pub loop-event-init : goal.loop-event-init
+loop-event-init c = behind-start c.args.t c.args.events.now c.args.marks.now c.requires
+
+pub loop-event-preserved : goal.loop-event-preserved
+loop-event-preserved c =
     let g = c.args in
-    let l = c.loop-i in
-    let v = c.event_at-event.ensures in
-    let s = rw v at c.stops_at.ensures in
+    let l = c.loop-event in
     elim c.if-stops_at.branch [
-      | then-stops_at w ↦ (
-        omega arith,
-        behind_more g.t g.reals.now g.words.now g.count g.marks.now l.i w.target_of.result (sym s ∙ w.if-stops_at.true)
-            (rw v at w.target_of.ensures) l.invariant.1 (w.marks-is ∙ w.mark_by.ensures),
-      )
-      | else-stops_at w ↦ (
-        omega arith,
-        behind_skip g.t g.reals.now g.words.now g.count g.marks.now l.i (sym s ∙ w.if-stops_at.false) (w.marks-is ∙ l.invariant.1),
-      )
+      | then-stops_at w ↦ behind_more g.t g.events.now g.marks.now l.event-index w.target.result _ c.loop-event-test.true (sym c.stops_at.ensures ∙ w.if-stops_at.true)
+          w.target.ensures l.invariant (w.marks-is ∙ w.mark_by.ensures)
+      | else-stops_at w ↦ behind_skip g.t g.events.now g.marks.now l.event-index _ c.loop-event-test.true (sym c.stops_at.ensures ∙ w.if-stops_at.false) (w.marks-is ∙ l.invariant)
     ]
 
-pub loop-i-init : goal.loop-i-init
-loop-i-init c = (omega arith, behind-start _ _ _ _ _)
-
 pub returns : goal.returns
-returns c = behind-all _ _ _ _ _ _ c.loop-i.invariant.0 c.loop-i-test.false c.loop-i.invariant.1
+returns c =
+    let e : c.loop-event.event-index ≡ length c.args.events.now = omega arith in
+    behind-all c.args.t c.args.events.now c.args.marks.now (c.loop-event.invariant ∙ rw e)

@@ -7,5 +7,5 @@ use Rattle.linear_pk.proofs.kernel.all_positive.Goals as goal
 pub slice_bounds-volumes-end : goal.slice_bounds-volumes-end
 slice_bounds-volumes-end c = omega arith
 
-pub slice_bounds-all_pass-end : goal.slice_bounds-all_pass-end
-slice_bounds-all_pass-end c = sym (length-take-le _ _ (omega arith))
+pub slice_bounds-all_positive-end : goal.slice_bounds-all_positive-end
+slice_bounds-all_positive-end c = sym (length-take-le _ _ (omega arith))

@@ -1,14 +1,15 @@
 -- `linear_pk::kernel::kernel_of` meets its contract.
+use lib.Ieee.{of_bits}
 use Rattle.linear_pk.specs.LinearPk.{kernel_of}
 use Rattle.linear_pk.proofs.kernel.kernel_of.Goals as goal
 
 pub returns : goal.returns
-unfolding kernel_of
+unfolding kernel_of of_bits
 returns c =
     rw (
       c.matrix-cells.ensures,
-      c.absorbed.ensures,
+      c.unwrap_or.ensures,
       c.central.ensures.0,
-      c.padded_volumes-list.ensures,
-      c.has_depot-depot.ensures,
+      c.padded-list.ensures,
+      c.is_some-depot.ensures,
     )

@@ -1,19 +1,11 @@
-use mathlib.Core.Path.{refl}
-use native.Mathlib.Omega.{arith}
-use Prim.Native.Nat.{◌-◌}
+-- `matrix::row::halved` meets its contract.
+use borrow.Author.Rules.{rules}
 use lib.Ieee.{of_bits}
+use Rattle.limits.specs.Limits.{block}
 use Rattle.matrix.specs.Arrays.{row_half}
-use Rattle.matrix.proofs.Filled.{fill, fill_from, fill_more, filled}
+use Rattle.matrix.proofs.Made.{made}
 use Rattle.matrix.proofs.row.halved.Goals as goal
 
-pub loop-j-init : goal.loop-j-init
-unfolding fill fill_from of_bits
-loop-j-init c = (omega arith, refl)
-
-pub loop-j-preserved : goal.loop-j-preserved
-unfolding of_bits
-loop-j-preserved c = (omega arith, fill_more _ _ _ _ c.loop-j.invariant.1 refl (omega arith))
-
 pub returns : goal.returns
-unfolding row_half
-returns c = filled _ _ _ _ c.loop-j.invariant.0 c.loop-j-test.false c.loop-j.invariant.1
+unfolding row_half of_bits
+returns c = made block (λ k y q l e. search rules) c.from_fn.ensures.items

@@ -7,6 +7,7 @@ use lib.ListN.{length}
 use borrow.Author.Tests.{not-true, not-false, lt-leb, le-leb}
 use Rattle.matrix.specs.Exponential.{scheme}
 use Rattle.linear_pk.proofs.Counted.{and_first, and_second, amounts-count}
+use Rattle.std.proofs.lemmas.Result.{err_from_is_err_and}
 use Rattle.linear_pk.proofs.Cases.{advance_unsound, advance-sound}
 use Rattle.linear_pk.proofs.kernel.LinearPk.advance.Goals as goal
 
@@ -15,14 +16,14 @@ returns-then-not-amounts_pass-is_nonnegative c =
     rw (
       advance-sound scheme c.args.self c.args.amounts.now c.args.rates.now c.args.duration
           (length c.args.res.now) {b = c.amounts_pass.result
-          && (c.amounts_pass-in-Done.result && c.is_nonnegative.result)} (sym
-          (rw c.in-Done.is at c.check-sound.ensures)) (rw (
+          && (c.amounts_pass-2.result && c.is_nonnegative.result)} (sym
+          (rw c.in_ok-check.was at c.check.ensures)) (rw (
             c.amounts_pass.ensures,
-            c.amounts_pass-in-Done.ensures,
+            c.amounts_pass-2.ensures,
             c.is_nonnegative.ensures,
             c.state_count-n.ensures.0,
           )),
-      not-true (c.amounts_pass.result && (c.amounts_pass-in-Done.result
+      not-true (c.amounts_pass.result && (c.amounts_pass-2.result
           && c.is_nonnegative.result)) (ap not c.if-not-amounts_pass-is_nonnegative.true),
     ) (record {
       result_value = refl;
@@ -34,14 +35,14 @@ returns-then-res-n c =
     rw (
       advance-sound scheme c.args.self c.args.amounts.now c.args.rates.now c.args.duration
           (length c.args.res.now) {b = c.amounts_pass.result
-          && (c.amounts_pass-in-Done.result && c.is_nonnegative.result)} (sym
-          (rw c.in-Done.is at c.check-sound.ensures)) (rw (
+          && (c.amounts_pass-2.result && c.is_nonnegative.result)} (sym
+          (rw c.in_ok-check.was at c.check.ensures)) (rw (
             c.amounts_pass.ensures,
-            c.amounts_pass-in-Done.ensures,
+            c.amounts_pass-2.ensures,
             c.is_nonnegative.ensures,
             c.state_count-n.ensures.0,
           )),
-      not-false (c.amounts_pass.result && (c.amounts_pass-in-Done.result
+      not-false (c.amounts_pass.result && (c.amounts_pass-2.result
           && c.is_nonnegative.result)) (ap not c.if-not-amounts_pass-is_nonnegative.false),
       ← c.state_count-n.ensures.0,
       lt-leb _ _ c.if-res-n.true,
@@ -53,34 +54,35 @@ returns-then-res-n c =
 pub interval-requires : goal.interval-requires
 interval-requires c =
     let h = not-false (c.amounts_pass.result
-    && (c.amounts_pass-in-Done.result && c.is_nonnegative.result)) (ap not c.if-not-amounts_pass-is_nonnegative.false) in (
+    && (c.amounts_pass-2.result && c.is_nonnegative.result)) (ap not c.if-not-amounts_pass-is_nonnegative.false) in (
       c.state_count-n.ensures.1,
       amounts-count _ c.args.amounts.now (sym c.amounts_pass.ensures ∙ and_first c.amounts_pass.result _ h),
-      amounts-count _ c.args.rates.now (sym c.amounts_pass-in-Done.ensures
-          ∙ and_first c.amounts_pass-in-Done.result _ (and_second c.amounts_pass.result _ h)),
+      amounts-count _ c.args.rates.now (sym c.amounts_pass-2.ensures
+          ∙ and_first c.amounts_pass-2.result _ (and_second c.amounts_pass.result _ h)),
       c.if-res-n.false,
     )
 
-pub returns-in-Refused : goal.returns-in-Refused
-returns-in-Refused c =
-    rw (advance_unsound scheme _ _ _ _ _ (sym (rw c.in-Refused.is at c.check-sound.ensures))) (record {
+pub returns-in_err-check : goal.returns-in_err-check
+returns-in_err-check c =
+    let p = err_from_is_err_and c.from_residual.result c.from_residual.ensures.1 in
+    rw (advance_unsound scheme _ _ _ _ _ (sym c.in_err-check.ensures), p.1, p.2) (record {
       result_value = refl;
       res_after = refl;
     })
 
-pub returns-else-res-n : goal.returns-else-res-n
-returns-else-res-n c =
+pub returns : goal.returns
+returns c =
     rw (
       advance-sound scheme c.args.self c.args.amounts.now c.args.rates.now c.args.duration
           (length c.args.res.now) {b = c.amounts_pass.result
-          && (c.amounts_pass-in-Done.result && c.is_nonnegative.result)} (sym
-          (rw c.in-Done.is at c.check-sound.ensures)) (rw (
+          && (c.amounts_pass-2.result && c.is_nonnegative.result)} (sym
+          (rw c.in_ok-check.was at c.check.ensures)) (rw (
             c.amounts_pass.ensures,
-            c.amounts_pass-in-Done.ensures,
+            c.amounts_pass-2.ensures,
             c.is_nonnegative.ensures,
             c.state_count-n.ensures.0,
           )),
-      not-false (c.amounts_pass.result && (c.amounts_pass-in-Done.result
+      not-false (c.amounts_pass.result && (c.amounts_pass-2.result
           && c.is_nonnegative.result)) (ap not c.if-not-amounts_pass-is_nonnegative.false),
       ← c.state_count-n.ensures.0,
       le-leb _ _ c.if-res-n.false,

@@ -1,3 +1,0 @@
-pub mod InfusionParts
-pub mod WholePeriods
-pub mod InfusionPieces

@@ -1,2 +1,0 @@
--- The laws of the zeroed list.
-pub mod Zeroed

@@ -1,8 +1,0 @@
--- `periodic_inputs::zeroed_row` meets its contract.
-use mathlib.Core.Path.{refl}
-use lib.Ieee.{of_bits}
-use Rattle.periodic_inputs.proofs.zeroed_row.Goals as goal
-
-pub returns : goal.returns
-unfolding of_bits
-returns c = refl

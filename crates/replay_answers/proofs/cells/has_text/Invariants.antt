@@ -1,9 +1,0 @@
--- `replay_answers::cells::has_text` is safe and ends.
-use Rattle.std.proofs.Common.{◌≤◌, ◌-◌, length}
-use Rattle.replay_answers.proofs.cells.has_text.Given as goal
-
-abbrev pub invariant-loop-i : goal.invariant-loop-i
-invariant-loop-i l = l.i ≤ length l.text
-
-abbrev pub decreases-loop-i : goal.decreases-loop-i
-decreases-loop-i l = length l.text - l.i

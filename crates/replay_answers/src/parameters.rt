@@ -1,0 +1,62 @@
+// The parameters of a kernel.
+ghost use Rattle.std.specs.Prelude.{◌≤◌, vec_len};
+
+use crate::LineError;
+use crate::words::{Words, doubles};
+use linear_pk::LinearPk;
+use refusal::Refusal;
+use std::alloc::Global;
+
+#[derive(Drop)]
+pub struct Parameters {
+    pub clearance: f64,
+    pub volumes: Vec<f64>,
+    pub exchanges: Vec<f64>,
+    pub absorption: Option<f64>,
+    ghost volumes_within: { vec_len volumes ≤ 4 },
+}
+
+impl Parameters {
+    // Clearance, lists of volumes and exchanges with these rooms, depot 0 or 1, absorption.
+    pub fn read(
+        alloc: Global,
+        words: &mut Words<'_>,
+        volumes: usize,
+        exchanges: usize,
+    ) -> Result<Self, LineError>
+        requires { volumes ≤ 4 }
+    {
+        let clearance = words.double()?;
+        let volumes = doubles(alloc, words.list(volumes)?)?;
+        let exchanges = doubles(alloc, words.list(exchanges)?)?;
+        let depot = words.at_most(1)?;
+        let rate = words.double()?;
+        let absorption = if depot == 0 { None } else { Some(rate) };
+        Ok(Parameters {
+            clearance,
+            volumes,
+            exchanges,
+            absorption,
+        })
+    }
+
+    // The kernel, or the refusal.
+    pub fn made(&self) -> Result<LinearPk, Refusal> {
+        LinearPk::new(
+            self.clearance,
+            self.volumes.as_slice(),
+            self.exchanges.as_slice(),
+            self.absorption,
+        )
+    }
+
+    // How many amounts a row of the kernel has.
+    pub fn state_count(&self) -> usize
+        ensures { result ≤ 5 }
+    {
+        match self.absorption {
+            None => self.volumes.len(),
+            Some(_) => self.volumes.len() + 1,
+        }
+    }
+}

@@ -1,9 +1,0 @@
--- `replay_sheets::replayed` is safe and ends. The measure is what is left of the text.
-use Rattle.std.proofs.Common.{◌≤◌, ◌+◌, ◌-◌, length}
-use Rattle.replay_sheets.proofs.replayed.Given as goal
-
-abbrev pub invariant-loop-at : goal.invariant-loop-at
-invariant-loop-at g l = l.at ≤ length l.text + 1
-
-abbrev pub decreases-loop-at : goal.decreases-loop-at
-decreases-loop-at g l = length l.text + 1 - l.at
