@@ -1,8 +1,10 @@
 #!/usr/bin/env python3
 """The places in crates/*/src that the points of docs/DESIGN-PASS.md count: places.py [POINT]
 
-Without a point a line with each count; with one its places, a line each. Run at the top of the repository,
-or as places.py --at FOLDER for another tree."""
+Without a point a line for each: how many places are found, how many of them are kept with a reason beside them, how many
+are left. With a point its places, a line each, with the reason. A reason is a comment line that begins `By WORDS: `, as
+`// By index: ..`, on one of the three lines above the place or among the comments at the head of its file.
+Run at the top of the repository, or as places.py --at FOLDER for another tree."""
 import collections
 import glob
 import os
@@ -52,6 +54,16 @@ def functions(text):
             if depth == 0:
                 break
         yield m.group(2), parameters, clauses, text[body_at:j], m.start()
+
+
+def reason(path, line):
+    """the reason beside a place, or at the head of its file"""
+    lines = open(path, encoding='utf-8').read().split('\n')
+    head = next((i for i, l in enumerate(lines) if not l.startswith('//')), 0)
+    for l in lines[max(line - 4, 0):line - 1][::-1] + lines[:head]:
+        found = re.match(r' *// (By [\w ,]+: .*)', l)
+        if found:
+            return found.group(1)
 
 
 def strip(text):
@@ -171,12 +183,13 @@ def main(words):
         os.chdir(words[1])
         words = words[2:]
     for number, point in enumerate(POINTS, 1):
-        places = list(point())
+        places = [(*place, reason(*place[:2])) for place in point()]
         if not words:
-            print(number, len(places), point.__doc__)
+            kept = sum(place[3] is not None for place in places)
+            print('%d found %d, kept %d, left %d: %s' % (number, len(places), kept, len(places) - kept, point.__doc__))
         elif words[0] == str(number):
-            for place in places:
-                print('%s:%d: %s' % place)
+            for path, line, what, why in places:
+                print('%s:%d: %s%s' % (path, line, what, ' -- ' + why if why else ''))
 
 
 main(sys.argv[1:])

@@ -13,7 +13,8 @@ pub fn is_nan_bits(bits: u64) -> bool
     bits % 0x8000_0000_0000_0000 > 0x7ff0_0000_0000_0000
 }
 
-// The double of a pattern; every NaN's pattern gives the one NaN.
+// The double of a pattern.
+// By hand: every NaN's pattern gives the one NaN, where the library's `from_bits` takes none.
 pub fn of_bits(bits: u64) -> f64
     ensures { result ≡ of_bits binary64 bits }
 {

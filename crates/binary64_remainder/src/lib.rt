@@ -33,6 +33,7 @@ fn doubled(r: u64, times: u64, q: u64) -> u64
     ensures { result ≡ r * 2 ^ times % q }
 {
     let mut left = r % q;
+    // By count: the loop counts turns, and has no index.
     for _i in 0..times {
         left = (left + left) % q;
     }

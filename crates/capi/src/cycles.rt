@@ -1,4 +1,5 @@
 // The C interface of a folded and of a closed cycle.
+// By the C interface: a function has the parameters that a C program passes, one by one.
 ghost use Rattle.std.specs.Prelude.{◌≡◌, [], length};
 ghost use Rattle.refusal.specs.Result.{number, value_or};
 ghost use Rattle.capi_kernel.specs.Cells.{kernel_at};

@@ -1,4 +1,5 @@
 // The C interface: doubles, lent slices and 01's numbers. include/linear_pk.h says each function's contract in plain words.
+// By the C interface: a function has the parameters that a C program passes, one by one.
 #![tactic(auto)]
 
 mod cycles;

@@ -1,4 +1,5 @@
 // The C interface of a run.
+// By the C interface: a function has the parameters that a C program passes, one by one.
 ghost use Rattle.std.specs.Prelude.{◌≡◌, length};
 ghost use Rattle.linear_pk.specs.LinearPk.{state_count};
 ghost use Rattle.events_layout.specs.Layout.{events_of};

@@ -1,4 +1,5 @@
 // The C interface of a sheet.
+// By the C interface: a C program calls each entry by its own name, and the body has nothing but the call and its two answers.
 ghost use Rattle.std.specs.Prelude.{◌≡◌};
 ghost use Rattle.printout.specs.Cells.{printed, printed_length};
 ghost use Rattle.rig_run_printout.specs.Rig.{printout_of_bytes, number_into};

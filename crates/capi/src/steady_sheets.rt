@@ -1,4 +1,5 @@
 // The C interface of the closed cycle of a sheet.
+// By the C interface: a C program calls each entry by its own name, and the body has nothing but the call and its two answers.
 ghost use Rattle.std.specs.Prelude.{◌≡◌};
 ghost use Rattle.printout.specs.Cells.{printed, printed_length};
 ghost use Rattle.printout.specs.Printouts.{number_into};

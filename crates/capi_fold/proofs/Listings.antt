@@ -17,7 +17,7 @@ use Rattle.linear_pk.specs.declared.kernel.LinearPk.{LinearPk}
 use Rattle.events_layout.specs.Layout.{events_fit, events_of}
 use Rattle.events_words.specs.Words.{event_words, list_words}
 use Rattle.printout.specs.Cells.{Wrote}
-use Rattle.printout.proofs.Writing.{wrote_none, wrote_both}
+use Rattle.printout.proofs.Writing.{wrote_both}
 use Rattle.protocol.specs.declared.Event.{Event}
 use Rattle.protocol.specs.declared.Event.TheVariants.{Bolus, Infusion, Reset}
 use Rattle.protocol.specs.declared.Window.{Window}
@@ -49,9 +49,6 @@ module _ (list : List Event) (old : List ℕ) where
     pub wrote : Wrote (list_words (take i list)) 0 old at out
     pub place : at ≡ event_size * i
 
-  pub put-start : Put 0 0 old
-  put-start = record { wrote = wrote_none 0 old; place = refl }
-
   pub put_more : (i at j : ℕ) (d : Event) {out new : List ℕ} → i < length list → Put i at out
       → Wrote (event_words (get_or list i d)) at out j new → Put (i + 1) j new
   put_more i at j d {out} {new} l h g = record {
@@ -66,10 +63,6 @@ module _ (list : List Event) (old : List ℕ) where
 
 -- ---- the events that words hold
 module _ (k : LinearPk) (w : Window) (ws : List ℕ) (ss : List Float) (room : ℕ) where
-  pub unfit : events_fit ws ≡ false → fold_words k w ws ss room ≡ refused 40
-  unfolding fold_words
-  unfit h = rw h
-
   over : (es : List Event) → most_cycle_events < length es → fold_entry k w ss es ≡ refused 5
   unfolding fold_entry
   over es h = rw (lt-leb (length es) most_cycle_events h)
@@ -85,28 +78,16 @@ module _ (k : LinearPk) (w : Window) (ws : List ℕ) (ss : List Float) (room : �
           over (take most_events es) (omega (arith, length-take-le most_events es (omega arith))) ∙ sym (over es (omega arith))
 
   module _ (h : events_fit ws ≡ true) where
-    pub fold-refused : {n : ℕ} → refused n ≡ fold_entry k w ss (take most_events (events_of ws)) → fold_words k w ws ss room ≡ refused n
-    unfolding fold_words
-    fold-refused e = rw (h, ← read_in (events_of ws), ← e)
-
     fold-listed : {es : List Event} → done es ≡ fold_entry k w ss (take most_events (events_of ws))
         → fold_words k w ws ss room ≡ unless (leb (event_size * length es) room) 4 es
     unfolding fold_words
     fold-listed e = rw (h, ← read_in (events_of ws), ← e)
-
-    pub fold_short : {es : List Event} → done es ≡ fold_entry k w ss (take most_events (events_of ws)) → room < event_size * length es
-        → fold_words k w ws ss room ≡ refused 4
-    fold_short e l = fold-listed e ∙ rw (lt-leb _ _ l)
 
     pub fold_done : {es : List Event} → done es ≡ fold_entry k w ss (take most_events (events_of ws)) → event_size * length es ≤ room
         → fold_words k w ws ss room ≡ done es
     fold_done e l = fold-listed e ∙ rw (le-leb _ _ l)
 
 -- ---- the promises
-pub refused-words : (n : ℕ) (old : List ℕ) {o : Result (List Event)} → o ≡ refused n → (refused n ≡ count_of o) × (old ≡ cells_of o old)
-unfolding cells_of
-refused-words n old e = rw e (refl, refl)
-
 pub done-words : (es : List Event) (old new : List ℕ) {o : Result (List Event)} {r : ℕ} → o ≡ done es
     → event_size * length es ≤ length old → Wrote (list_words es) 0 old r new
     → (done (length es) ≡ count_of o) × (new ≡ cells_of o old)

@@ -1,4 +1,5 @@
 // The folded cycle over words, six to an event, for the C interface.
+// By the entry: the parameters are those of `fold::normalize_periodic_cycle`, with words for events.
 #![tactic(auto)]
 
 ghost use Rattle.std.specs.Prelude.{◌≡◌, ◌≤◌, ◌*◌, length};
@@ -10,7 +11,7 @@ ghost use Rattle.capi_fold.specs.Words.{fold_words, count_of, cells_of};
 
 use limits::EVENT_SIZE;
 use linear_pk::LinearPk;
-use protocol::{Event, Window};
+use protocol::{Event, EventList, Window};
 use refusal::Refusal;
 
 // The words of the events, from the front on.
@@ -26,6 +27,7 @@ fn put_list(list: &[Event], out: &mut [u64]) -> usize
 }
 
 // The list of a cycle, from words to words, and how many events it has: 40, then the library's numbers, last 4.
+#[tactic(auto, using(crate::proofs::Listings::read_in), unfolding(crate::specs::Words::fold_words, crate::specs::Words::cells_of))]
 pub fn fold_words(
     kernel: LinearPk,
     window: Window,
@@ -41,7 +43,8 @@ pub fn fold_words(
         return Err(Refusal::Layout);
     }
     let given = events_layout::events_of(events);
-    let list = fold::normalize_periodic_cycle(kernel, window, given.as_slice(), samples)?;
+    let mut list = EventList::new();
+    fold::normalize_periodic_cycle(kernel, window, given.as_slice(), samples, &mut list)?;
     let count = list.len();
     if EVENT_SIZE * count > folded.len() {
         return Err(Refusal::ShortSlice);

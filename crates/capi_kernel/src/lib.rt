@@ -1,4 +1,5 @@
 // A kernel and a bound kernel as cells, doubles in a slice.
+// By the C interface: a function has the parameters that a C program passes, one by one.
 #![tactic(auto)]
 
 ghost use Rattle.std.specs.Prelude.{◌≡◌, length};
@@ -10,6 +11,7 @@ use linear_pk::LinearPk;
 use refusal::Refusal;
 
 // The cells of a new kernel; the number of its refusal, 0 for none.
+#[tactic(auto, unfolding(crate::specs::Cells::new_cells))]
 pub fn new(
     clearance: f64,
     volumes: &[f64],
@@ -42,6 +44,7 @@ pub fn new(
 }
 
 // The cells of a kernel with its initial amounts; the number of its refusal, 0 for none.
+#[tactic(auto, unfolding(crate::specs::Cells::bind_cells))]
 pub fn bind(kernel: &[f64], initial: &[f64], bound: &mut [f64]) -> u64
     ensures value { result ≡ number (bind_cells (kernel_at kernel.now) initial.now (length bound.old)) }
     ensures bound_after { bound.new ≡ slice_at_exit (bind_cells (kernel_at kernel.now) initial.now

@@ -16,6 +16,7 @@ use std::array;
 // The rates stand behind the volume count, the depot and the volumes.
 const FIRST_RATE: usize = 2 + VOLUMES;
 
+// By the C interface: a flag and a number stand for an option.
 pub fn absorption_of(depot: bool, absorption: f64) -> Option<f64>
     ensures { result ≡ absorption_of depot absorption }
 {
@@ -33,11 +34,7 @@ fn count_or(count: usize, k: u32, x: f64) -> usize
 fn count_at(x: f64) -> usize
     ensures { result ≡ count_at x }
 {
-    let mut count = 0usize;
-    for k in 0..VOLUMES as u32 {
-        count = count_or(count, k + 1, x);
-    }
-    count
+    (1..VOLUMES as u32 + 1).fold(0, |count, k| count_or(count, k, x))
 }
 
 // As many cells from a place on as the array has.
@@ -49,6 +46,7 @@ fn cells_from<const N: usize>(cells: &[f64], from: usize) -> [f64; N]
 }
 
 // The kernel that cells hold; one of no volumes where they hold none.
+#[tactic(auto, unfolding(crate::specs::Reading::kernel_at))]
 pub fn kernel_at(cells: &[f64]) -> LinearPk
     ensures { result ≡ kernel_at cells.now }
 {

@@ -13,7 +13,7 @@ use limits::{EVENT_SIZE, EVENTS};
 use linear_pk::LinearPk;
 use protocol::Window;
 use refusal::Refusal;
-use simulation_report::{Report, RunReply};
+use simulation_report::{Report, RunError};
 
 // A run of the events that the words hold: 40 where they are none.
 pub fn simulate_words(
@@ -39,10 +39,10 @@ pub fn simulate_words(
         (room (length times.old) (length sides.old) (length values.old))) values.old }
 {
     if !events_layout::events_fit(events) {
-        return simulation_report::report_of(RunReply::Refused(Refusal::Layout));
+        return simulation_report::report_of(Err(RunError::Refused(Refusal::Layout)));
     }
     if events.len() / EVENT_SIZE > EVENTS {
-        return simulation_report::report_of(RunReply::Refused(Refusal::Limit));
+        return simulation_report::report_of(Err(RunError::Refused(Refusal::Limit)));
     }
     let list = events_layout::events_of(events);
     simulation_report::report_of(simulation::simulate(

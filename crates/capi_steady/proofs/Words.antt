@@ -12,25 +12,19 @@ use lib.Ieee.{Float}
 use Rattle.limits.specs.Limits.{most_cycle_events, most_events}
 use Rattle.binary64.specs.Doubles.{plus_zero}
 use Rattle.linear_pk.specs.declared.kernel.LinearPk.{LinearPk}
-use Rattle.events_layout.specs.Layout.{events_fit, events_of}
 use Rattle.protocol.specs.declared.Event.{Event}
 use Rattle.protocol.specs.declared.Window.{Window}
 use Rattle.cycle.specs.declared.SteadyStateTolerance.{SteadyStateTolerance}
-use Rattle.cycle.specs.Closed.{Timed, stopped, SteadyState}
+use Rattle.cycle.specs.Closed.{stopped}
 use Rattle.periodic_acceptance.specs.Entry.{steady_entry}
-use Rattle.capi_steady.specs.Words.{steady_words}
 
 module _ (k : LinearPk) (w : Window) (ss : List Float) (ws : List ℕ) (tol : SteadyStateTolerance) (room : Bool) where
-  pub unfit : events_fit ws ≡ false → steady_words k w ss ws tol room ≡ stopped 40 plus_zero
-  unfolding steady_words
-  unfit h = rw h
-
   over : (es : List Event) → most_cycle_events < length es → steady_entry k w ss es tol room ≡ stopped 5 plus_zero
   unfolding steady_entry
   over es h = rw (lt-leb (length es) most_cycle_events h)
 
   -- those that a list holds are solved as all are
-  read_in : (es : List Event) → steady_entry k w ss (take most_events es) tol room ≡ steady_entry k w ss es tol room
+  pub read_in : (es : List Event) → steady_entry k w ss (take most_events es) tol room ≡ steady_entry k w ss es tol room
   read_in es = on (leb (length es) most_events) refl
     where
       on : (b : Bool) → leb (length es) most_events ≡ b → steady_entry k w ss (take most_events es) tol room ≡ steady_entry k w ss es tol room
@@ -38,7 +32,3 @@ module _ (k : LinearPk) (w : Window) (ss : List Float) (ws : List ℕ) (tol : St
       on false e =
           let l = leb-false (length es) most_events e in
           over (take most_events es) (omega (arith, length-take-le most_events es (omega arith))) ∙ sym (over es (omega arith))
-
-  pub words-entry : events_fit ws ≡ true → steady_entry k w ss (take most_events (events_of ws)) tol room ≡ steady_words k w ss ws tol room
-  unfolding steady_words
-  words-entry h = rw h (read_in (events_of ws))

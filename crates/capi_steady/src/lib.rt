@@ -1,4 +1,5 @@
 // The closed cycle of events that are laid out as words, six to an event, for the C interface.
+// By the entry: the parameters are those of `periodic::periodic_steady_state`, with words for events.
 #![tactic(auto)]
 
 ghost use Rattle.std.specs.Prelude.{◌≡◌, length};
@@ -13,6 +14,7 @@ use protocol::Window;
 use refusal::Refusal;
 
 // 40 where the words are no events, else the library's closed cycle of them.
+#[tactic(auto, using(crate::proofs::Words::read_in), unfolding(crate::specs::Words::steady_words))]
 pub fn steady_words(
     kernel: LinearPk,
     window: Window,

@@ -13,7 +13,9 @@ use Rattle.protocol.specs.Schedule.{check, apply}
 use Rattle.protocol.specs.Execute.{Propagator, dosed_amounts, execute, run}
 use Rattle.rows.specs.Written.{Cells}
 use Rattle.rows.specs.Standing.{after, Ran}
+use Rattle.std.specs.Prelude.{Result}
 use Rattle.rows.specs.declared.Progress.{Progress}
+use Rattle.rows.specs.declared.Stopped.{Stopped}
 use Rattle.doses_steps.specs.Takes.{checked_with, Takes}
 
 module _ (n : ℕ) (t : Float) (start : Progress) where
@@ -24,7 +26,7 @@ module _ (n : ℕ) (t : Float) (start : Progress) where
   check_on a c true h = record { progress = rw (h, sub-zero start.left, add-zero start.made, add-zero start.rows); cells = rw h }
   check_on a c false h = record { progress = rw (h, sub-zero start.left, add-zero start.made, add-zero start.rows); cells = rw h }
 
-  pub check_takes : {r : Progress} → r ≡ checked_with n t start start.amounts → Takes n start (check t ∷ []) r
+  pub check_takes : {r : Result Progress Stopped} → r ≡ checked_with n t start start.amounts → Takes n start (check t ∷ []) r
   check_takes e = rw e (record { ran = λ a c. check_on a c (all nonnegative (take n start.amounts)) refl })
 
   -- ---- a reset or a bolus
@@ -34,5 +36,5 @@ module _ (n : ℕ) (t : Float) (start : Progress) where
     apply_on a c true h = record { progress = rw (h, ← q, h, sub-zero start.left, add-zero start.made, add-zero start.rows); cells = rw (← q, h) }
     apply_on a c false h = record { progress = rw (h, ← q, h, sub-zero start.left, add-zero start.made, add-zero start.rows); cells = rw (← q, h) }
 
-    pub apply_takes : {r : Progress} → r ≡ checked_with n t start next → Takes n start (apply t e ∷ []) r
+    pub apply_takes : {r : Result Progress Stopped} → r ≡ checked_with n t start next → Takes n start (apply t e ∷ []) r
     apply_takes z = rw z (record { ran = λ a c. apply_on a c (all nonnegative (take n next)) refl })

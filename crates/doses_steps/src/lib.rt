@@ -1,19 +1,19 @@
 // Single steps at a boundary: the state is checked, or a reset or a bolus is applied and the state checked.
+// By fixed memory: n, the count of a kernel's states, stands beside arrays of the most states, since there is no heap.
 #![tactic(auto)]
 
-ghost use Rattle.std.specs.Prelude.{◌≡◌, ◌≤◌, take, [], ◌∷◌, map};
+ghost use Rattle.std.specs.Prelude.{◌≡◌, ◌≤◌, take, [], ◌∷◌};
 ghost use Rattle.limits.specs.Limits.{states};
 ghost use Rattle.binary64.specs.Doubles.{nonnegative};
 ghost use Rattle.binary64.specs.Lists.{all};
 ghost use Rattle.protocol.specs.Execute.{dosed as dosedOf, dosed_amounts};
-ghost use Rattle.protocol.specs.Events.{is_bolus, boluses};
 ghost use Rattle.protocol.specs.Schedule.{check, apply};
 ghost use Rattle.doses_steps.specs.Takes.{checked_with, Takes};
 
 use limits::STATES;
 use protocol::Event;
 use refusal::Refusal;
-use rows::Progress;
+use rows::{Progress, Stopped};
 
 // Whether each of the n amounts is finite and at least 0.
 pub fn check_state(n: usize, amounts: [f64; STATES]) -> bool
@@ -51,19 +51,19 @@ pub fn dose(event: &Event, n: usize, amounts: [f64; STATES]) -> [f64; STATES]
 }
 
 // On with these amounts, or 31 at t.
-fn tested(n: usize, t: f64, start: Progress, amounts: [f64; STATES]) -> Progress
+fn tested(n: usize, t: f64, start: Progress, amounts: [f64; STATES]) -> Result<Progress, Stopped>
     requires { n ≤ states }
     ensures { result ≡ checked_with n t start amounts }
 {
     let p = start.with_amounts(amounts);
     if check_state(n, amounts) {
-        return p;
+        return Ok(p);
     }
-    p.stopped_by(Refusal::State, t)
+    Err(p.stopped_by(Refusal::State, t))
 }
 
 // The state at t is checked.
-pub fn check_at(n: usize, t: f64, start: Progress) -> Progress
+pub fn check_at(n: usize, t: f64, start: Progress) -> Result<Progress, Stopped>
     requires { n ≤ states }
     ensures { Takes n start (check t ∷ []) result }
 {
@@ -72,33 +72,11 @@ pub fn check_at(n: usize, t: f64, start: Progress) -> Progress
 }
 
 // A reset or a bolus at t, and the state checked.
-pub fn apply_one(event: &Event, n: usize, t: f64, start: Progress) -> Progress
+pub fn apply_one(event: &Event, n: usize, t: f64, start: Progress) -> Result<Progress, Stopped>
     requires { n ≤ states }
     ensures { Takes n start (apply t event.now ∷ []) result }
 {
     let amounts = start.amounts;
     let next = dose(event, n, amounts);
     tested(n, t, start, next)
-}
-
-#[tactic(auto, unfolding(protocol::specs::Events::is_bolus))]
-fn is_bolus(t: f64, event: &Event) -> bool
-    ensures { result ≡ is_bolus t event.now }
-{
-    match event {
-        Event::Bolus { time, .. } => *time == t,
-        Event::Infusion { .. } => false,
-        Event::Reset { .. } => false,
-    }
-}
-
-// The event, if it is a bolus at t.
-pub fn apply_bolus(event: &Event, n: usize, t: f64, start: Progress) -> Progress
-    requires { n ≤ states }
-    ensures { Takes n start (map (apply t) (boluses t (event.now ∷ []))) result }
-{
-    if is_bolus(t, event) {
-        return apply_one(event, n, t, start);
-    }
-    start.resumed()
 }

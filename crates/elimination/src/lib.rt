@@ -1,4 +1,5 @@
-// Gaussian elimination with partial pivoting and back substitution, in arrays of which the leading n by n part is in use.
+// Gaussian elimination with partial pivoting and back substitution.
+// By fixed memory: matrices are arrays of a fixed width, since there is no heap, of which the leading n by n part is in use.
 #![tactic(auto)]
 
 ghost use Rattle.std.specs.Prelude.{◌≡◌, ◌≤◌, take};
@@ -33,6 +34,7 @@ pub fn solve(
     let least = elimination_system::pivot::least(&matrix, n);
     let mut a = matrix;
     let mut b = right;
+    // By index: column k has its pivot at row k.
     for k in 0..n {
         let p = elimination_system::pivot::row(&a, n, k);
         if !elimination_system::pivot::passes(least, at(&a, p, k)) {
@@ -40,7 +42,7 @@ pub fn solve(
         }
         a.swap(k, p);
         b.swap(k, p);
-        b = right::reduced(&a, b, n, k);
+        b = right::reduced(&a, b, k);
         a = table::reduced(&a, k);
     }
     Ok(elimination_steps::substitution::solved(&a, b, n))

@@ -5,11 +5,10 @@ use mathlib.Core.List.{List, []}
 use Prim.Native.Nat.{ℕ, ◌≤◌, ◌<◌}
 use native.Mathlib.Omega.{arith}
 use lib.Dec.{T, ltb, ltb→lt}
-use lib.ListN.{replicate, take}
+use lib.ListN.{take}
 use lib.Seq.{get_or-take}
 use lib.Ieee.{Float, nan, binary64, sub, mul, div}
 use Rattle.limits.specs.Limits.{states}
-use Rattle.binary64.specs.Doubles.{plus_zero}
 use Rattle.matrix.specs.Matrix.{Matrix, cell, at, table, tabulate}
 use Rattle.matrix.specs.Arrays.{lead}
 use Rattle.cycle.specs.Elimination.{system_cell, factor, reduced_cell, reduced_right}

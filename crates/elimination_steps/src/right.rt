@@ -1,25 +1,21 @@
-// The right side of a system.
-ghost use Rattle.std.specs.Prelude.{◌≡◌, ◌≤◌, take};
+// The right side of a system, over the whole width.
+ghost use Rattle.std.specs.Prelude.{◌≡◌, ◌<◌};
 ghost use Rattle.limits.specs.Limits.{states};
 ghost use Rattle.matrix.specs.Matrix.{tabulate};
 ghost use Rattle.cycle.specs.Elimination.{reduced_right};
-ghost use Rattle.elimination_system.specs.Systems.{held};
 
 use elimination_system::entries::reduced_entry;
 use limits::STATES;
+use std::array;
 
-pub fn reduced(
-    a: &[[f64; STATES]; STATES],
-    right: [f64; STATES],
-    n: usize,
-    k: usize,
-) -> [f64; STATES]
-    requires { n ≤ states }
-    ensures { take n result ≡ tabulate n (reduced_right (held n a.now right) k) }
+// The entries behind entry k less their row's multiple of it.
+pub fn reduced(a: &[[f64; STATES]; STATES], right: [f64; STATES], k: usize) -> [f64; STATES]
+    ensures { result ≡ tabulate states (reduced_right (record { matrix = a.now; right = right }) k) }
 {
-    let mut side = [0.0f64; STATES];
-    for i in 0..n {
-        side[i] = reduced_entry(a, right, k, i);
-    }
-    side
+    array::from_fn(
+        |i|
+            requires { i < states }
+            ensures { result ≡ reduced_right (record { matrix = a.entry.now; right = right }) k i }
+        { reduced_entry(a, right, k, i) },
+    )
 }

@@ -13,6 +13,7 @@ fn solved_sum(a: &[[f64; STATES]; STATES], x: [f64; STATES], i: usize, d: usize)
     ensures { result ≡ solved_sum a.now x i d }
 {
     let mut sum = -0.0f64;
+    // By index: a zip of two tails that begin at i + 1 and end at d would name the same three numbers.
     for j in 0..d {
         sum = sum + at(a, i, i + 1 + j) * x[i + 1 + j];
     }
@@ -25,6 +26,7 @@ pub fn solved(a: &[[f64; STATES]; STATES], right: [f64; STATES], n: usize) -> [f
     ensures { take n result ≡ solve_to n (held n a.now right) n }
 {
     let mut x = [0.0f64; STATES];
+    // By index: each amount is stored at its row, and read for the rows ahead of it.
     for d in 0..n {
         let i = n - (d + 1);
         let sum = solved_sum(a, x, i, d);

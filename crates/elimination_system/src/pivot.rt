@@ -35,6 +35,7 @@ pub fn row(a: &[[f64; STATES]; STATES], n: usize, k: usize) -> usize
     ensures { (result ≡ pivot_of n (lead n a.now) k) × (result < n) }
 {
     let mut p = k;
+    // By index: the number of the row is the answer.
     for d in 0..n - 1 - k {
         p = larger(a, k, p, k + (d + 1));
     }

@@ -1,5 +1,5 @@
 // The marks of the infusions that resets have stopped.
-ghost use Rattle.std.specs.Prelude.{◌≡◌, length};
+ghost use Rattle.std.specs.Prelude.{◌≡◌, ◌≤◌, ◌++◌, length, drop};
 ghost use Rattle.protocol.specs.Events.{running};
 ghost use Rattle.protocol.specs.Schedule.{marked};
 ghost use Rattle.events_at.specs.At.{stops_at, marked_by};
@@ -35,20 +35,20 @@ fn runs(t: f64, target: usize, event: &Event) -> bool
     }
 }
 
-// The infusions that run on the target at t are marked.
+// The infusions that run on the target at t are marked; marks behind those of the events stay.
 fn mark_by(events: &[Event], t: f64, target: usize, marks: &mut [bool])
-    requires { length marks.old ≡ length events.now }
-    ensures { marks.new ≡ marked_by t target events.now marks.old }
+    requires { length events.now ≤ length marks.old }
+    ensures { marks.new ≡ marked_by t target events.now marks.old ++ drop (length events.now) marks.old }
 {
     for (i, event) in events.iter().enumerate() {
         marks[i] |= runs(t, target, event);
     }
 }
 
-// Each stopping reset at t marks the infusions that run on its target.
+// Each stopping reset at t marks the infusions that run on its target; marks behind those of the events stay.
 pub fn mark(events: &[Event], t: f64, marks: &mut [bool])
-    requires { length marks.old ≡ length events.now }
-    ensures { marks.new ≡ marked t events.now marks.old }
+    requires { length events.now ≤ length marks.old }
+    ensures { marks.new ≡ marked t events.now marks.old ++ drop (length events.now) marks.old }
 {
     for event in events {
         if stops_at(t, event) {

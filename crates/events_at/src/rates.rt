@@ -1,4 +1,5 @@
 // The rates of the infusions that flow at an instant.
+// By fixed memory: rates stand in an array of the most states, the first n of which are a kernel's.
 ghost use Rattle.std.specs.Prelude.{◌≡◌, ◌≤◌, take};
 ghost use Rattle.limits.specs.Limits.{states};
 ghost use Rattle.protocol.specs.Schedule.{flows as flowsOf, infusion_rate, summed};

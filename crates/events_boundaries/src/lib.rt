@@ -28,27 +28,26 @@ fn lay_event(event: &Event, bounds: &mut Boundaries)
 }
 
 // Start, end, and each event's time and end.
-fn lay(window: Window, events: &[Event]) -> Boundaries
+// By the event: an infusion lays two times, another event one; nothing is copied.
+fn lay(window: Window, events: &[Event], bounds: &mut Boundaries)
     requires { length events.now ≤ most_events }
-    ensures { result.items ≡ boundary_times window.start window.end events.now }
+    ensures { bounds.new.items ≡ boundary_times window.start window.end events.now }
 {
-    let mut bounds = Boundaries::new();
+    bounds.clear();
     bounds.push(window.start);
     bounds.push(window.end);
     for event in events {
-        lay_event(event, &mut bounds);
+        lay_event(event, bounds);
     }
-    bounds
 }
 
 // The boundaries, in order and each once.
-pub fn boundaries(window: Window, events: &[Event]) -> Boundaries
+pub fn boundaries(window: Window, events: &[Event], bounds: &mut Boundaries)
     requires { length events.now ≤ most_events }
-    ensures { (result.items ≡ boundariesOf window events.now)
+    ensures { (bounds.new.items ≡ boundariesOf window events.now)
         × T (all (fits binary64) (boundary_times window.start window.end events.now)) }
 {
-    let mut bounds = lay(window, events);
+    lay(window, events, bounds);
     let kept = events_times::sorted_unique(bounds.as_mut_slice());
     bounds.truncate(kept);
-    bounds
 }

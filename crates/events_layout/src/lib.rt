@@ -10,6 +10,7 @@ use limits::{EVENT_SIZE, EVENTS};
 use protocol::{Event, EventList};
 
 // 64-bit words, however they are stored.
+// By word: a sheet's bytes lend no slice of words.
 pub trait Words {
     ghost words: { Self → List ℕ };
 
@@ -34,43 +35,48 @@ impl<'a> Words for &'a [u64] {
 }
 
 // Whether a kind, and a reset's order and `stops`, are among the listed values.
+// By word: it holds any number, and an enum in between would be matched again at each use.
 pub fn words_listed(kind: u64, order: u64, stops: u64) -> bool
     ensures { result ≡ words_listed kind order stops }
 {
-    (kind <= 1) | ((kind == 2) & ((order <= 65535) & (stops <= 1)))
+    match kind {
+        0 | 1 => true,
+        2 => (order <= 65535) & (stops <= 1),
+        _ => false,
+    }
 }
 
 // The event of six words. A kind above 2 is read as a reset.
+// By word: a `From` would be of an array or a tuple, and of the protocol's own event.
+#[tactic(auto, unfolding(crate::specs::Fields::event_from))]
 pub fn event_from(kind: u64, time: u64, target: u64, amount: u64, last: u64, stops: u64) -> Event
     ensures { result ≡ event_from kind time target amount last stops }
 {
     let at = binary64_bits::of_bits(time);
     let given = binary64_bits::of_bits(amount);
-    if kind == 0 {
-        return Event::Bolus {
+    match kind {
+        0 => Event::Bolus {
             time: at,
             target: target as usize,
             amount: given,
-        };
-    }
-    if kind == 1 {
-        return Event::Infusion {
+        },
+        1 => Event::Infusion {
             time: at,
             target: target as usize,
             amount: given,
             duration: binary64_bits::of_bits(last),
-        };
-    }
-    Event::Reset {
-        time: at,
-        target: target as usize,
-        value: given,
-        order: (last % 65536) as u16,
-        stops: stops == 1,
+        },
+        _ => Event::Reset {
+            time: at,
+            target: target as usize,
+            value: given,
+            order: (last % 65536) as u16,
+            stops: stops == 1,
+        },
     }
 }
 
-// Word k of event i.
+// Word k of event i. That the words of event i are there is asked of three private functions: a struct that keeps it would be made for each call.
 fn word_at<W: Words + Copy>(words: W, i: usize, k: usize) -> u64
     requires { (event_size * i + event_size ≤ length (W.words words)) × (length (W.words words) < 2 ^ 64) × (k < event_size) }
     ensures { result ≡ word_at (W.words words) i k }
@@ -78,6 +84,7 @@ fn word_at<W: Words + Copy>(words: W, i: usize, k: usize) -> u64
     words.word(EVENT_SIZE * i + k)
 }
 
+#[tactic(auto, unfolding(crate::specs::Layout::event_fits))]
 fn event_fits<W: Words + Copy>(words: W, i: usize) -> bool
     requires { (event_size * i + event_size ≤ length (W.words words)) × (length (W.words words) < 2 ^ 64) }
     ensures { result ≡ event_fits (W.words words) i }
@@ -95,15 +102,12 @@ pub fn events_fit<W: Words + Copy>(words: W) -> bool
 {
     let total = words.count();
     let count = total / EVENT_SIZE;
-    let mut ok = true;
-    for i in 0..count {
-        ok = ok & event_fits(words, i);
-    }
-    (total % EVENT_SIZE == 0) & ok
+    (total % EVENT_SIZE == 0) & (0..count).all(|i| event_fits(words, i))
 }
 
 // Event i, whose words are there.
-pub fn event_of<W: Words + Copy>(words: W, i: usize) -> Event
+#[tactic(auto, unfolding(crate::specs::Layout::event_of))]
+fn event_of<W: Words + Copy>(words: W, i: usize) -> Event
     requires { event_size * i + event_size ≤ length (W.words words) }
     ensures { result ≡ event_of (W.words words) i }
 {
@@ -125,6 +129,7 @@ pub fn events_of<W: Words + Copy>(words: W) -> EventList
 {
     let count = (words.count() / EVENT_SIZE).min(EVENTS);
     let mut list = EventList::new();
+    // By index: `collect` asks for an allocator, and can fail.
     for i in 0..count {
         list.push(event_of(words, i));
     }

@@ -1,2 +1,2 @@
 pub mod Either
-pub mod Insertions
+pub mod Sorting

@@ -9,6 +9,7 @@ ghost use Rattle.events_words.specs.Words.{event_words};
 use limits::EVENT_SIZE;
 use protocol::Event;
 
+// By hand: a `From` would be of two types of other crates.
 #[tactic(auto, unfolding(crate::specs::Words::event_words))]
 fn words_of(event: Event) -> [u64; EVENT_SIZE]
     ensures { result ≡ event_words event }

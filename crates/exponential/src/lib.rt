@@ -1,5 +1,5 @@
 // The exponential of a block by scaling and squaring of its Taylor series.
-// Matrices are arrays of arrays, of which the leading m by m part is in use.
+// By fixed memory: matrices are arrays of a fixed width, since there is no heap, of which the leading m by m part is in use.
 #![tactic(auto)]
 
 ghost use Rattle.std.specs.Prelude.{◌≡◌, ◌≤◌, length};
@@ -12,15 +12,14 @@ ghost use Rattle.exponential.specs.Answers.{exponential_of};
 use limits::BLOCK;
 use refusal::Refusal;
 
-fn taylor(a: [[f64; BLOCK]; BLOCK], m: usize, count: usize) -> [[f64; BLOCK]; BLOCK]
-    requires { (m ≤ block) × (length a ≡ block) }
-    ensures { Holds m result (taylorOf scheme m count (lead m a)) }
+// The series of a, halved count times in place, into p, squared as often. The squarings go through a.
+fn taylor(a: &mut [[f64; BLOCK]; BLOCK], m: usize, count: usize, p: &mut [[f64; BLOCK]; BLOCK])
+    requires { m ≤ block }
+    ensures { Holds m p.new (taylorOf scheme m count (lead m a.old)) }
 {
-    exponential_series::squared(
-        exponential_series::series(exponential_series::halved(a, m, count), m, 20),
-        m,
-        count,
-    )
+    exponential_series::halved(a, m, count);
+    exponential_series::series(a, m, 20, p);
+    exponential_series::squared(p, m, count, a);
 }
 
 // The exponential of a block, and the halvings that it took.
@@ -31,12 +30,13 @@ pub struct Propagator {
 }
 
 // The exponential of the leading m by m part of a.
-pub fn exponential(a: [[f64; BLOCK]; BLOCK], m: usize) -> Result<Propagator, Refusal>
+pub fn exponential(mut a: [[f64; BLOCK]; BLOCK], m: usize) -> Result<Propagator, Refusal>
     requires { (m ≤ block) × (length a ≡ block) }
     ensures { outcome_with (exponential_of m) result ≡ exponentialOf scheme m (lead m a) }
 {
     let halvings = exponential_norm::count_halvings(exponential_norm::norm(&a, m), 0.5, 60)?;
-    let matrix = taylor(a, m, halvings);
+    let mut matrix = [[0.0f64; BLOCK]; BLOCK];
+    taylor(&mut a, m, halvings, &mut matrix);
     if !exponential_norm::all_finite(&matrix, m) {
         return Err(Refusal::AmountNotFinite);
     }

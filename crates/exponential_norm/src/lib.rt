@@ -1,5 +1,5 @@
 // The norm of a block, how often it is halved, and whether a block is finite.
-// Matrices are arrays of arrays, of which the leading m by m part is in use.
+// By fixed memory: matrices are arrays of a fixed width, since there is no heap, of which the leading m by m part is in use.
 #![tactic(auto)]
 
 ghost use Rattle.std.specs.Prelude.{◌≡◌, ◌≤◌};

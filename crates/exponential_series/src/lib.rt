@@ -1,8 +1,8 @@
 // The Taylor series of the exponential of a block; a block halved, and squared, a number of times.
-// Matrices are arrays of arrays, of which the leading m by m part is in use.
+// By fixed memory: matrices are arrays of a fixed width, since there is no heap, of which the leading m by m part is in use.
 #![tactic(auto)]
 
-ghost use Rattle.std.specs.Prelude.{◌≡◌, ◌≤◌, [], get_or, length};
+ghost use Rattle.std.specs.Prelude.{◌≡◌, ◌≤◌, [], get_or};
 ghost use Rattle.limits.specs.Limits.{block};
 ghost use Rattle.matrix.specs.Arrays.{updated, row_times, row_quotient, row_sum_of, lead, Holds, row_half};
 ghost use Rattle.matrix.specs.Matrix.{identity as identityOf};
@@ -16,10 +16,8 @@ fn next_term(term: &mut [[f64; BLOCK]; BLOCK], a: &[[f64; BLOCK]; BLOCK], m: usi
     requires { m ≤ block }
     ensures { term.new ≡ updated m (λ i r. row_quotient (row_times r a.now m) x) term.old }
 {
-    for i in 0..m {
-        let old = term[i];
-        let product = row::times(old, a, m);
-        term[i] = row::divided(product, x);
+    for row in &mut term[..m] {
+        *row = row::divided(row::times(row, a, m), x);
     }
 }
 
@@ -28,10 +26,8 @@ fn add_term(sum: &mut [[f64; BLOCK]; BLOCK], term: &[[f64; BLOCK]; BLOCK], m: us
     requires { m ≤ block }
     ensures { sum.new ≡ updated m (λ i r. row_sum_of r (get_or term.now i [])) sum.old }
 {
-    for i in 0..m {
-        let old = sum[i];
-        let more = term[i];
-        sum[i] = row::added(old, more);
+    for (i, row) in sum[..m].iter_mut().enumerate() {
+        *row = row::added(*row, term[i]);
     }
 }
 
@@ -41,25 +37,25 @@ fn identity(m: usize) -> [[f64; BLOCK]; BLOCK]
 {
     let zeros = [0.0f64; BLOCK];
     let mut r = [zeros; BLOCK];
-    for i in 0..m {
-        r[i][i] = 1.0;
+    for (i, row) in r[..m].iter_mut().enumerate() {
+        row[i] = 1.0;
     }
     r
 }
 
-// 1 + a + a²/2! + .., the first terms after 1.
-pub fn series(a: [[f64; BLOCK]; BLOCK], m: usize, terms: u32) -> [[f64; BLOCK]; BLOCK]
+// 1 + a + a²/2! + .., the first terms after 1, into sum. Lent: by value it takes up to a tenth longer.
+pub fn series(a: &[[f64; BLOCK]; BLOCK], m: usize, terms: u32, sum: &mut [[f64; BLOCK]; BLOCK])
     requires { m ≤ block }
-    ensures { Holds m result (seriesOf m (lead m a) terms).sum }
+    ensures { Holds m sum.new (seriesOf m (lead m a.now) terms).sum }
 {
     let mut term = identity(m);
-    let mut sum = term;
+    *sum = term;
+    // By count: k is the number of the term, and no index.
     for k in 0..terms {
         let x = (k + 1) as f64;
-        next_term(&mut term, &a, m, x);
-        add_term(&mut sum, &term, m);
+        next_term(&mut term, a, m, x);
+        add_term(sum, &term, m);
     }
-    sum
 }
 
 // a·½, in place
@@ -67,9 +63,8 @@ fn halve(a: &mut [[f64; BLOCK]; BLOCK], m: usize)
     requires { m ≤ block }
     ensures { a.new ≡ updated m (λ i r. row_half r) a.old }
 {
-    for i in 0..m {
-        let old = a[i];
-        a[i] = row::halved(old);
+    for row in &mut a[..m] {
+        *row = row::halved(*row);
     }
 }
 
@@ -78,38 +73,42 @@ fn square(p: &[[f64; BLOCK]; BLOCK], m: usize, out: &mut [[f64; BLOCK]; BLOCK])
     requires { m ≤ block }
     ensures { out.new ≡ updated m (λ i r. row_times (get_or p.now i []) p.now m) out.old }
 {
+    // By index: over zipped rows the loop is not unrolled, and the squarings take up to a fifth longer.
     for i in 0..m {
         let line = p[i];
-        out[i] = row::times(line, p, m);
+        out[i] = row::times(&line, p, m);
     }
 }
 
-// The block halved count times, one halving at a time.
-pub fn halved(a: [[f64; BLOCK]; BLOCK], m: usize, count: usize) -> [[f64; BLOCK]; BLOCK]
-    requires { (m ≤ block) × (length a ≡ block) }
-    ensures { Holds m result (halved_times m count (lead m a)) }
+// The block halved count times, one halving at a time, in place.
+pub fn halved(a: &mut [[f64; BLOCK]; BLOCK], m: usize, count: usize)
+    requires { m ≤ block }
+    ensures { Holds m a.new (halved_times m count (lead m a.old)) }
 {
-    let mut r = a;
+    // By count: the loop counts turns, and has no index.
     for k in 0..count {
-        halve(&mut r, m);
+        halve(a, m);
     }
-    r
 }
 
-// p squared count times: once if count is odd, then two at a time, into one array and back.
-pub fn squared(p: [[f64; BLOCK]; BLOCK], m: usize, count: usize) -> [[f64; BLOCK]; BLOCK]
-    requires { (m ≤ block) × (length p ≡ block) }
-    ensures { Holds m result (squarings m count (lead m p)) }
+// p squared count times: once if count is odd, then two at a time, into next and back.
+pub fn squared(
+    p: &mut [[f64; BLOCK]; BLOCK],
+    m: usize,
+    count: usize,
+    next: &mut [[f64; BLOCK]; BLOCK],
+)
+    requires { m ≤ block }
+    ensures { Holds m p.new (squarings m count (lead m p.old)) }
 {
-    let mut r = p;
-    let mut next = p;
     if count % 2 == 1 {
-        square(&p, m, &mut r);
+        square(p, m, next);
+        *p = *next;
     }
     let pairs = count / 2;
+    // By count: the loop counts turns, and has no index.
     for k in 0..pairs {
-        square(&r, m, &mut next);
-        square(&next, m, &mut r);
+        square(p, m, next);
+        square(next, m, p);
     }
-    r
 }

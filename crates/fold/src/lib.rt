@@ -1,8 +1,9 @@
 // `normalize_periodic_cycle`: the list of a cycle, folded into one period.
+// By the caller: kernel, window, events and samples come apart, since one list runs under many windows, and one kernel over many lists.
 #![tactic(auto)]
 
-ghost use Rattle.std.specs.Prelude.{◌≡◌};
-ghost use Rattle.refusal.specs.Numbers.{outcome_with};
+ghost use Rattle.std.specs.Prelude.{◌≡◌, [], OnErr};
+ghost use Rattle.refusal.specs.Numbers.{result_of};
 ghost use Rattle.fold.specs.Entry.{fold_entry};
 
 use limits::{CYCLE_EVENTS, SAMPLES};
@@ -10,15 +11,19 @@ use linear_pk::LinearPk;
 use protocol::{Event, EventList, Window};
 use refusal::Refusal;
 
-// The list of a cycle folded: 5, the kernel's own 1 and 2, then 15, 13, event by event 16, 17, 18, 13, at last 10, 11, 12.
+// The list of a cycle folded: 5, the kernel's own 1 and 2, then 15, 13, event by event 16, 17, 18, 13, at last 10, 11, 12. At a refusal the list
+// is empty.
 pub fn normalize_periodic_cycle(
     kernel: LinearPk,
     window: Window,
     events: &[Event],
     samples: &[f64],
-) -> Result<EventList, Refusal>
-    ensures { outcome_with (λ l. l.items) result ≡ fold_entry kernel window samples.now events.now }
+    list: &mut EventList,
+) -> Result<(), Refusal>
+    ensures folded { result_of result list.new.items ≡ fold_entry kernel window samples.now events.now }
+    ensures refused { OnErr result (list.new.items ≡ []) }
 {
+    list.clear();
     if events.len() > CYCLE_EVENTS {
         return Err(Refusal::Limit);
     }
@@ -26,5 +31,5 @@ pub fn normalize_periodic_cycle(
         return Err(Refusal::Limit);
     }
     linear_pk::check(kernel)?;
-    fold_events::folded(kernel.state_count(), window, samples, events)
+    fold_events::folded(kernel.state_count(), window, samples, events, list)
 }

@@ -1,4 +1,5 @@
 // One event of a cycle folded: an infusion its pieces within one period, any other event itself; 16, 17, 18, 13.
+// By the event: room for three pieces is asked of the list at each, since it falls with each; no type of a list keeps it.
 #![tactic(auto)]
 
 ghost use Rattle.std.specs.Prelude.{◌≡◌, ◌≤◌, ◌+◌};
@@ -13,58 +14,11 @@ use fold_infusion::CycleInfusion;
 use protocol::{Event, EventList, Window};
 use refusal::Refusal;
 
-// The pieces of an infusion of the list, behind the list so far: 17, 18.
-pub fn infusion(
-    window: Window,
-    events: &[Event],
-    time: f64,
-    target: usize,
-    amount: f64,
-    duration: f64,
-    out: &mut EventList,
-) -> Result<(), Refusal>
-    requires { array_vec_len out.old + 3 ≤ most_events }
-    ensures pieces { result_of result out.new.items ≡ behind out.old.items
-        (pieces_of window events.now (Infusion time target amount duration)) }
-    ensures room { array_vec_len out.new ≤ array_vec_len out.old + 3 }
-{
-    if !fold_stop::infusion_passes(time, amount, duration) {
-        return Err(Refusal::CycleInfusion);
-    }
-    let period = window.end - window.start;
-    let until = fold_stop::stop_of(period, time, target, time + duration, events);
-    let infusion = CycleInfusion {
-        window,
-        time,
-        target,
-        rate: amount / duration,
-    };
-    infusion.push_pieces(fold_stop::has_stop(target, events), until - time, out)
-}
-
-// The pieces of one event of the list, behind the list so far.
-pub fn pieces(
-    window: Window,
-    events: &[Event],
-    event: &Event,
-    out: &mut EventList,
-) -> Result<(), Refusal>
-    requires { array_vec_len out.old + 3 ≤ most_events }
-    ensures pieces { result_of result out.new.items ≡ behind out.old.items (pieces_of window events.now event.now) }
-    ensures room { array_vec_len out.new ≤ array_vec_len out.old + 3 }
-{
-    match event {
-        Event::Infusion {
-            time,
-            target,
-            amount,
-            duration,
-        } => infusion(window, events, *time, *target, *amount, *duration, out),
-        Event::Bolus { .. } | Event::Reset { .. } => {
-            out.push(*event);
-            Ok(())
-        }
-    }
+// A cycle: its list of events, with its window.
+#[derive(Clone, Copy)]
+pub struct Cycle<'a> {
+    pub window: Window,
+    pub events: &'a [Event],
 }
 
 // Finite and in [start, end).
@@ -75,23 +29,68 @@ fn time_passes(window: Window, time: f64) -> bool
     binary64::is_finite(time) & ((window.start <= time) & (time < window.end))
 }
 
-// One event of the list, behind the list so far: 16, 17, 18, 13.
-pub fn with_event(
-    window: Window,
-    events: &[Event],
-    event: &Event,
-    out: &mut EventList,
-) -> Result<(), Refusal>
-    requires { array_vec_len out.old + 3 ≤ most_events }
-    ensures folded { result_of result out.new.items ≡ with_event window events.now event.now out.old.items }
-    ensures room { array_vec_len out.new ≤ array_vec_len out.old + 3 }
-{
-    if !time_passes(window, event.time()) {
-        return Err(Refusal::CycleEvent);
+impl Cycle<'_> {
+    // The pieces of an infusion of the list, behind the list so far: 17, 18.
+    pub fn infusion(
+        &self,
+        time: f64,
+        target: usize,
+        amount: f64,
+        duration: f64,
+        out: &mut EventList,
+    ) -> Result<(), Refusal>
+        requires { array_vec_len out.old + 3 ≤ most_events }
+        ensures pieces { result_of result out.new.items ≡ behind out.old.items
+            (pieces_of self.now.window self.now.events.now (Infusion time target amount duration)) }
+        ensures room { array_vec_len out.new ≤ array_vec_len out.old + 3 }
+    {
+        if !fold_stop::infusion_passes(time, amount, duration) {
+            return Err(Refusal::CycleInfusion);
+        }
+        let period = self.window.end - self.window.start;
+        let until = fold_stop::stop_of(period, time, target, time + duration, self.events);
+        let infusion = CycleInfusion {
+            window: self.window,
+            time,
+            target,
+            rate: amount / duration,
+        };
+        infusion.push_pieces(fold_stop::has_stop(target, self.events), until - time, out)
     }
-    pieces(window, events, event, out)?;
-    if out.len() > window.events {
-        return Err(Refusal::EventBudget);
+
+    // The pieces of one event of the list, behind the list so far.
+    pub fn pieces(&self, event: &Event, out: &mut EventList) -> Result<(), Refusal>
+        requires { array_vec_len out.old + 3 ≤ most_events }
+        ensures pieces { result_of result out.new.items ≡ behind out.old.items (pieces_of self.now.window self.now.events.now event.now) }
+        ensures room { array_vec_len out.new ≤ array_vec_len out.old + 3 }
+    {
+        match event {
+            Event::Infusion {
+                time,
+                target,
+                amount,
+                duration,
+            } => self.infusion(*time, *target, *amount, *duration, out),
+            Event::Bolus { .. } | Event::Reset { .. } => {
+                out.push(*event);
+                Ok(())
+            }
+        }
     }
-    Ok(())
+
+    // One event of the list, behind the list so far: 16, 17, 18, 13.
+    pub fn with_event(&self, event: &Event, out: &mut EventList) -> Result<(), Refusal>
+        requires { array_vec_len out.old + 3 ≤ most_events }
+        ensures folded { result_of result out.new.items ≡ with_event self.now.window self.now.events.now event.now out.old.items }
+        ensures room { array_vec_len out.new ≤ array_vec_len out.old + 3 }
+    {
+        if !time_passes(self.window, event.time()) {
+            return Err(Refusal::CycleEvent);
+        }
+        self.pieces(event, out)?;
+        if out.len() > self.window.events {
+            return Err(Refusal::EventBudget);
+        }
+        Ok(())
+    }
 }

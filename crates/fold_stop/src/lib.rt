@@ -9,6 +9,7 @@ ghost use Rattle.protocol.specs.Events.{time as timeOf};
 use protocol::Event;
 
 // Whether duration, amount and stop pass 17.
+#[tactic(auto, unfolding(cycle::specs::Fold::infusion_passes))]
 pub fn infusion_passes(time: f64, amount: f64, duration: f64) -> bool
     ensures { result ≡ infusion_passes time amount duration }
 {

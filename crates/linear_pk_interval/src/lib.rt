@@ -1,4 +1,5 @@
 // Amounts after an interval with constant input rates, of n states and the rates between them.
+// By fixed memory: sizes in use stand beside arrays of the most states, since there is no heap.
 #![tactic(auto)]
 
 ghost use Rattle.std.specs.Prelude.{◌≡◌, ◌≤◌, ◌+◌, ◌++◌, length, drop};
@@ -13,6 +14,7 @@ use limits::{BLOCK, RATE_CELLS};
 use refusal::Refusal;
 
 // The values from the front of out; the cells behind them stay.
+// By hand: the library's `copy_from_slice` asks for equal lengths.
 pub fn lay(values: &[f64], out: &mut [f64])
     requires { length values.now ≤ length out.old }
     ensures { out.new ≡ values.now ++ drop (length values.now) out.old }

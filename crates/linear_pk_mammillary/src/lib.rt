@@ -1,4 +1,6 @@
 // The matrix of rates of a mammillary model: central, up to two peripherals, an optional depot.
+// By fixed memory: sizes in use stand beside arrays of the most states, since there is no heap.
+// Parameters go side by side, as the entry that makes a kernel lists them: a struct of them would be made there, and taken apart for each cell.
 #![tactic(auto)]
 
 ghost use Rattle.std.specs.Prelude.{◌≡◌, ◌+◌, ◌≤◌, ◌<◌, length};

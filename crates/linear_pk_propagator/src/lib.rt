@@ -1,8 +1,10 @@
 // The exponential of a duration, of n states and the rates between them, and the amounts after it is applied to them.
+// By fixed memory: sizes in use stand beside arrays of the most states, since there is no heap.
 #![tactic(auto)]
 
-ghost use Rattle.std.specs.Prelude.{◌≡◌, ◌≤◌, ◌<◌, ◌+◌, length, take};
+ghost use Rattle.std.specs.Prelude.{◌≡◌, ◌≤◌, ◌<◌, ◌+◌, cond, ltb, length, take};
 ghost use Rattle.limits.specs.Limits.{states, block};
+ghost use Rattle.binary64.specs.Doubles.{plus_zero};
 ghost use Rattle.matrix.specs.Matrix.{tabulate, table, cell, all_to};
 ghost use Rattle.matrix.specs.Arrays.{Holds};
 ghost use Rattle.matrix.specs.Exponential.{scheme};
@@ -93,6 +95,7 @@ fn amount(
     ensures { result ≡ amount_to p.now n amounts.now rates.now duration i n }
 {
     let mut sum = -0.0f64;
+    // By index: both halves of row i, the amounts and the rates go side by side.
     for j in 0..n {
         sum = sum + (p[i][j] * amounts[j] + p[i][j + n] * (rates[j] * duration));
     }
@@ -110,9 +113,16 @@ pub fn amounts_after(
     requires { (n ≤ states) × (length amounts.now ≡ n) × (length rates.now ≡ n) }
     ensures { take n result ≡ tabulate n (λ i. amount_to p.now n amounts.now rates.now duration i n) }
 {
-    let mut list = [0.0f64; STATES];
-    for i in 0..n {
-        list[i] = amount(p, n, amounts, rates, duration, i);
-    }
-    list
+    array::from_fn(
+        |i|
+            requires { (n ≤ states) × (length amounts.now ≡ n) × (length rates.now ≡ n) }
+            ensures { result ≡ cond (ltb i n) (amount_to p.entry.now n amounts.entry.now rates.entry.now duration i n) plus_zero }
+        {
+            if i < n {
+                amount(p, n, amounts, rates, duration, i)
+            } else {
+                0.0
+            }
+        },
+    )
 }

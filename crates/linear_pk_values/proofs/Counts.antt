@@ -1,25 +1,20 @@
 -- Both tests of an `&&`, and the number of amounts that pass.
-use mathlib.Core.Path.{◌≡◌, refl}
-use mathlib.Core.Bool.{Bool, true, false, ◌&&◌}
+use mathlib.Core.Path.{◌≡◌}
+use mathlib.Core.Bool.{Bool, true, ◌&&◌}
 use mathlib.Core.List.{List}
 use Prim.Native.Nat.{ℕ}
-use native.Mathlib.Omega.{arith}
 use borrow.Author.Tests.{eqb-true}
 use lib.Dec.{eqb}
 use lib.ListN.{length}
 use lib.Ieee.{Float}
+use Rattle.std.proofs.lemmas.Bool.{and_parts}
 use Rattle.binary64.specs.Lists.{amounts_pass}
 
 pub and_first : (a b : Bool) → a && b ≡ true → a ≡ true
-and_first true b h = refl
-and_first false b h = h
+and_first a b h = (and_parts a b h).0
 
 pub and_second : (a b : Bool) → a && b ≡ true → b ≡ true
-and_second true b h = h
-and_second false b h = absurd (no h)
-  where
-    no : false ≡ true → ⊥
-    no h = let z : ◌≡◌ {A = ℕ} 0 1 = cc in omega arith
+and_second a b h = (and_parts a b h).1
 
 -- amounts that pass are n in number
 pub amounts-count : (n : ℕ) (xs : List Float) → amounts_pass n xs ≡ true → length xs ≡ n

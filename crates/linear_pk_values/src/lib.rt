@@ -1,8 +1,10 @@
 // The values that a kernel is made of, which pass, and amounts by volume.
+// By fixed memory: sizes in use stand beside arrays of the most states, since there is no heap.
 #![tactic(auto)]
 
-ghost use Rattle.std.specs.Prelude.{◌≡◌, ◌≤◌, ◌<◌, ◌+◌, length, take};
+ghost use Rattle.std.specs.Prelude.{◌≡◌, ◌≤◌, ◌<◌, ◌+◌, cond, ltb, length, take};
 ghost use Rattle.limits.specs.Limits.{most_volumes};
+ghost use Rattle.binary64.specs.Doubles.{plus_zero};
 ghost use Rattle.linear_pk_mammillary.specs.Rates.{central};
 ghost use Rattle.linear_pk_values.specs.Parameters.{parameters_pass};
 ghost use Rattle.matrix.specs.Matrix.{tabulate};
@@ -12,6 +14,7 @@ ghost use Rattle.linear_pk_values.specs.Concentrations.{concentration as concent
 
 use limits::VOLUMES;
 use refusal::Refusal;
+use std::array;
 
 // Whether the values pass, of 1 to 3 volumes and one exchange fewer.
 pub fn values_pass(
@@ -50,11 +53,18 @@ fn concentration_list(
     requires { (count ≤ most_volumes) × (count + central depot ≤ length amounts.now) }
     ensures { take count result ≡ tabulate count (concentrationOf depot volumes amounts.now) }
 {
-    let mut list = [0.0f64; VOLUMES];
-    for i in 0..count {
-        list[i] = concentration(depot, volumes, amounts, i);
-    }
-    list
+    array::from_fn(
+        |i|
+            requires { (count ≤ most_volumes) × (count + central depot ≤ length amounts.now) }
+            ensures { result ≡ cond (ltb i count) (concentrationOf depot volumes amounts.entry.now i) plus_zero }
+        {
+            if i < count {
+                concentration(depot, volumes, amounts, i)
+            } else {
+                0.0
+            }
+        },
+    )
 }
 
 // The concentrations of the compartments, count of them in n states, into the first cells of result.

@@ -90,3 +90,14 @@ module _ {A : Type 0} where
   take-replicate zero w z h = refl
   take-replicate (suc n) zero z h = absurd (not-suc-le-zero h)
   take-replicate (suc n) (suc w) z h = ap {B = List A} (λ r. z ∷ r) (take-replicate n w z (le_of_suc-le-suc h))
+
+  from_take : (f : ℕ → A) (i w m : ℕ) → m ≤ w → take m (tabulate_from i w f) ≡ tabulate_from i m f
+  unfolding tabulate_from
+  from_take f i w zero h = refl
+  from_take f i zero (suc m) h = absurd (not-suc-le-zero h)
+  from_take f i (suc w) (suc m) h = ap {B = List A} (λ r. f i ∷ r) (from_take f (suc i) w m (le_of_suc-le-suc h))
+
+  -- the first of them, where the entries are others' there
+  pub tabulate-front : (f g : ℕ → A) (w m : ℕ) {xs : List A} → m ≤ w → xs ≡ tabulate w f → ((k : ℕ) → k < m → f k ≡ g k) → take m xs ≡ tabulate m g
+  unfolding tabulate
+  tabulate-front f g w m h e same = rw e (from_take f 0 w m h ∙ tabulate_cong m same)

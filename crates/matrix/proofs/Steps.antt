@@ -12,7 +12,7 @@ use lib.Seq.{get_or-set_same, get_or-set_other}
 use lib.Ieee.{Float, nan, binary64, of_int}
 use Rattle.limits.specs.Limits.{block}
 use Rattle.binary64.specs.Doubles.{plus_zero, one}
-use Rattle.matrix.specs.Matrix.{Matrix, cell, at, identity}
+use Rattle.matrix.specs.Matrix.{Matrix, cell, identity}
 use Rattle.matrix.specs.Arrays.{lead, Holds, updated, row_half, row_times, row_quotient, row_sum_of}
 use Rattle.matrix.specs.Exponential.{halved_times, series, next_term, squarings}
 use Rattle.matrix.proofs.Updated.{updated-length}

@@ -1,10 +1,10 @@
 -- Laws of `updated`, a list whose first elements are replaced in place.
 use mathlib.Core.Path.{◌≡◌, refl, ap}
-use mathlib.Core.List.{List, [], ◌∷◌}
+use mathlib.Core.List.{List, [], ◌∷◌, ◌++◌}
 use Prim.Native.Nat.{ℕ, zero, suc, ◌+◌, ◌<◌, ◌≤◌}
 use native.Mathlib.Nat.{not-suc-le-zero, le_of_suc-le-suc, add-zero, zero-add, suc-add, add-suc, le_antisymm}
 use native.Mathlib.Numerals.{add-one}
-use lib.ListN.{length, get_or, set}
+use lib.ListN.{length, get_or, set, take, drop}
 use Rattle.matrix.specs.Arrays.{updated, updated_from}
 
 module _ {A : Type 0} (g : ℕ → A → A) (d : A) where
@@ -51,3 +51,17 @@ module _ {A : Type 0} (g : ℕ → A → A) where
   -- all are
   pub updated-all : (k m : ℕ) (xs : List A) {ys : List A} → k ≤ m → m ≤ k → ys ≡ updated k g xs → ys ≡ updated m g xs
   updated-all k m xs p q r = rw (le_antisymm p q) at r
+
+  from_front : (i m k : ℕ) (xs : List A) → length (take m xs) ≤ k → updated_from i k g (take m xs) ++ drop m xs ≡ updated_from i m g xs
+  unfolding updated_from
+  from_front i zero zero xs h = refl
+  from_front i zero (suc k) xs h = refl
+  from_front i (suc m) zero [] h = refl
+  from_front i (suc m) (suc k) [] h = refl
+  from_front i (suc m) zero (x ∷ xs) h = absurd (not-suc-le-zero h)
+  from_front i (suc m) (suc k) (x ∷ xs) h = ap {B = List A} (λ r. g i x ∷ r) (from_front (suc i) m k xs (le_of_suc-le-suc h))
+
+  -- all of the first m are, ahead of the others
+  pub updated-front : (k m : ℕ) (xs : List A) {ys : List A} → length (take m xs) ≤ k → ys ≡ updated k g (take m xs) → ys ++ drop m xs ≡ updated m g xs
+  unfolding updated
+  updated-front k m xs h e = rw e (from_front 0 m k xs h)

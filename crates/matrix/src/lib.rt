@@ -1,4 +1,5 @@
-// Square matrices in arrays of a fixed width.
+// Square matrices.
+// By fixed memory: they are arrays of a fixed width, since there is no heap, and the size in use stands beside them.
 #![tactic(auto)]
 
 pub mod row;

@@ -1,4 +1,5 @@
-// Rows of a block, by value and over the whole width.
+// Rows of a block, over the whole width.
+// By fixed memory: rows are arrays of a fixed width, and the size in use stands beside them.
 ghost use Rattle.std.specs.Prelude.{◌≡◌, ◌≤◌};
 ghost use Rattle.limits.specs.Limits.{block};
 ghost use Rattle.matrix.specs.Arrays.{scaled_sum, row_quotient, row_sum_of, row_half, row_times};
@@ -32,14 +33,13 @@ pub fn halved(row: [f64; BLOCK]) -> [f64; BLOCK]
 }
 
 // row × b, where b has m rows in use: the rows of b, scaled and summed in order.
-pub fn times(row: [f64; BLOCK], b: &[[f64; BLOCK]; BLOCK], m: usize) -> [f64; BLOCK]
+pub fn times(row: &[f64; BLOCK], b: &[[f64; BLOCK]; BLOCK], m: usize) -> [f64; BLOCK]
     requires { m ≤ block }
-    ensures { result ≡ row_times row b.now m }
+    ensures { result ≡ row_times row.now b.now m }
 {
     let mut sum = [-0.0f64; BLOCK];
-    for k in 0..m {
-        let line = b[k];
-        let next = plus_scaled(sum, row[k], line);
+    for (x, line) in row.iter().zip(&b[..m]) {
+        let next = plus_scaled(sum, *x, *line);
         sum = next;
     }
     sum

@@ -1,4 +1,5 @@
 // `periodic_steady_state`: the closed cycle of a list, from the tests ahead of it to the amounts, the residuals and the greatest scaled one.
+// By the caller: kernel, window, events, samples and tolerance come apart, as it has them.
 #![tactic(auto)]
 
 ghost use Rattle.std.specs.Prelude.{◌≡◌, ◌&&◌, ◌≤◌, leb, length};
@@ -14,7 +15,7 @@ use limits::{CYCLE_EVENTS, SAMPLES};
 use linear_pk::LinearPk;
 use periodic_runs::PreparedCycle;
 pub use periodic_runs::Stop;
-use protocol::{Event, Window};
+use protocol::{Event, EventList, Window};
 use refusal::Refusal;
 
 // The closed cycle of the list, folded.
@@ -33,8 +34,14 @@ fn closed(
         (leb n (length amounts.old) && leb n (length residual.old)))
         (steady_reply result) amounts.old residual.old amounts.new residual.new }
 {
-    let folded = periodic_preparation::prepare_periodic_steady_state(
-        n, window, samples, tolerance, events,
+    let mut folded = EventList::new();
+    periodic_preparation::prepare_periodic_steady_state(
+        n,
+        window,
+        samples,
+        tolerance,
+        events,
+        &mut folded,
     )?;
     let cycle = PreparedCycle {
         kernel,

@@ -1,7 +1,8 @@
-// The acceptance of a closed cycle's candidate, by its own run, and the writing of its answers.
+// The acceptance of a closed cycle's candidate, by its own run.
+// By fixed memory: amounts stand in arrays of the most states, the first n of which are a kernel's.
 #![tactic(auto)]
 
-ghost use Rattle.std.specs.Prelude.{◌≡◌, ◌++◌, ◌≤◌, length, take, drop};
+ghost use Rattle.std.specs.Prelude.{◌≡◌, ◌≤◌, take};
 ghost use Rattle.limits.specs.Limits.{states};
 ghost use Rattle.refusal.specs.Numbers.{outcome_with};
 ghost use Rattle.simulation.specs.KernelRun.{propagator_of};
@@ -14,14 +15,6 @@ use limits::STATES;
 use periodic_runs::PreparedCycle;
 pub use periodic_runs::Stop;
 use refusal::Refusal;
-
-// The first n values from the front of out; the cells behind them stay.
-pub fn lay(n: usize, values: [f64; STATES], out: &mut [f64])
-    requires { (n ≤ states) × (n ≤ length out.old) }
-    ensures { out.new ≡ take n values ++ drop (length (take n values)) out.old }
-{
-    out[..n].copy_from_slice(&values[..n]);
-}
 
 // An accepted candidate's residuals and the greatest scaled one.
 #[derive(Clone, Copy)]

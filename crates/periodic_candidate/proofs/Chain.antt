@@ -2,17 +2,16 @@
 use mathlib.Core.Path.{◌≡◌, sym, ap, ◌∙◌}
 use mathlib.Core.Bool.{cond}
 use mathlib.Core.List.{List, []}
-use Prim.Native.Nat.{ℕ, ◌≤◌, ◌<◌}
+use Prim.Native.Nat.{ℕ, ◌<◌}
 use lib.ListN.{get_or, take, replicate}
 use lib.Seq.{get_or-take}
 use lib.Dec.{eqb}
 use lib.Ieee.{Float, nan, binary64, sub, neg}
-use Rattle.limits.specs.Limits.{states}
 use Rattle.binary64.specs.Doubles.{plus_zero, one}
 use Rattle.matrix.specs.Matrix.{Matrix, cell, at, table}
 use Rattle.matrix.specs.Arrays.{lead}
 use Rattle.matrix.proofs.Rows.{table_at, table_cong}
-use Rattle.matrix.proofs.Filled.{tabulate-at, take-replicate}
+use Rattle.matrix.proofs.Filled.{tabulate-at}
 use Rattle.protocol.specs.Execute.{Propagator}
 use Rattle.protocol.specs.declared.Event.{Event}
 use Rattle.protocol.specs.declared.Window.{Window}
@@ -37,9 +36,6 @@ system_is n cs a b e = ap (λ (m : Matrix). record { matrix = m; right = b }) (e
 
 -- ---- the runs, and elimination
 module _ (advance : Propagator) (n : ℕ) (w : Window) (fs : List Event) where
-  pub zero_front : n ≤ states → take n (replicate states plus_zero) ≡ replicate n plus_zero
-  zero_front h = take-replicate n states plus_zero h
-
   pub solution-stops : {c : ℕ} {t : Float} → stopped c t ≡ last_of advance n w fs (replicate n plus_zero) → stopped c t ≡ solution advance n w fs
   unfolding solution
   solution-stops e = rw (← e)

@@ -1,4 +1,5 @@
 // The candidate of a closed cycle, from the runs and elimination.
+// By fixed memory: amounts stand in arrays of the most states, the first n of which are a kernel's.
 #![tactic(auto)]
 
 ghost use Rattle.std.specs.Prelude.{◌≡◌, ◌≤◌, take};

@@ -81,15 +81,14 @@ fn zeroed(event: &Event) -> Event
 }
 
 // The list with doses and reset values zeroed.
-pub fn homogeneous(events: &[Event]) -> EventList
+pub fn homogeneous(events: &[Event], list: &mut EventList)
     requires { length events.now ≤ most_events }
-    ensures { result.items ≡ homogeneousOf events.now }
+    ensures { list.new.items ≡ homogeneousOf events.now }
 {
-    let mut list = EventList::new();
+    list.clear();
     for event in events {
         list.push(zeroed(event));
     }
-    list
 }
 
 // One amount of 1.

@@ -1,4 +1,5 @@
 // One cycle of a folded list from given amounts, by the library's run.
+// By the caller: the rows go into slices of its own, whose lengths no type keeps.
 #![tactic(auto)]
 
 ghost use Rattle.std.specs.Prelude.{◌≡◌, ◌+◌, ◌≤◌, length, take, drop};
@@ -11,7 +12,8 @@ ghost use Rattle.periodic_next.specs.ReachesEnd.{ReachesEnd};
 use linear_pk::LinearPk;
 use protocol::{Event, Window};
 
-// The place in the values from which the amounts at the cycle's end stand: the run's last row. Four rows for each of 192 events, and two, have room.
+// The place in the values from which the amounts at the cycle's end stand: the run's last row. Four rows for each of 192 events, and two, have
+// room.
 pub fn simulate_cycle(
     kernel: LinearPk,
     window: Window,

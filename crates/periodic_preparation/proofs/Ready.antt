@@ -7,7 +7,10 @@ use Prim.Native.Nat.{ℕ, ◌≤◌}
 use native.Mathlib.Omega.{arith}
 use lib.Ieee.{Float}
 use Rattle.binary64.specs.Doubles.{plus_zero}
+use Rattle.std.specs.Prelude.{Ok, Err}
+use Rattle.refusal.specs.Numbers.{Reply, reply_number, result_of}
 use Rattle.refusal.specs.Result.{refused, done}
+use Rattle.refusal.proofs.Numbers.{refusal-number}
 use Rattle.protocol.specs.Prepare.{prepare}
 use Rattle.protocol.specs.declared.Event.{Event}
 use Rattle.protocol.specs.declared.Window.{Window}
@@ -15,7 +18,7 @@ use Rattle.preparation.specs.Preparation.{option_number}
 use Rattle.preparation.proofs.Tests.{prepare-passes}
 use Rattle.cycle.specs.declared.SteadyStateTolerance.{SteadyStateTolerance}
 use Rattle.cycle.specs.Fold.{fold}
-use Rattle.cycle.specs.Closed.{stopped, got, tolerance_passes, divided, ready}
+use Rattle.cycle.specs.Closed.{untimed, stopped, got, tolerance_passes, divided, ready}
 
 -- a number above 0 is that of the preparation
 number_some : (o : Option ℕ) {c : ℕ} → 1 ≤ c → c ≡ option_number o → some c ≡ o
@@ -36,10 +39,14 @@ module _ (n : ℕ) (w : Window) (ss : List Float) (es : List Event) (tol : Stead
     fold-stops e = rw (h, ← e)
 
     module _ {fs : List Event} (e : done fs ≡ fold n w ss es) where
-      pub prepare-stops : {c : ℕ} → 1 ≤ c → c ≡ option_number (prepare n (divided n w) [] fs) → stopped c plus_zero ≡ ready n w ss es tol
+      prepare-stops : {c : ℕ} → 1 ≤ c → c ≡ option_number (prepare n (divided n w) [] fs) → stopped c plus_zero ≡ ready n w ss es tol
       unfolding ready
       prepare-stops l q = rw (h, ← e, ← number_some (prepare n (divided n w) [] fs) l q)
 
-      pub ready-got : 0 ≡ option_number (prepare n (divided n w) [] fs) → got fs ≡ ready n w ss es tol
+      ready-got : 0 ≡ option_number (prepare n (divided n w) [] fs) → got fs ≡ ready n w ss es tol
       unfolding ready
       ready-got q = rw (h, ← e, prepare-passes n (divided n w) [] fs q)
+
+      pub prepared_as : (v : Reply) → reply_number v ≡ option_number (prepare n (divided n w) [] fs) → untimed (result_of v fs) ≡ ready n w ss es tol
+      prepared_as (Ok u) q = ready-got q
+      prepared_as (Err r) q = prepare-stops (refusal-number r) q

@@ -1,9 +1,10 @@
 // What is ahead of the runs of a closed cycle: its tolerances, the fold, and the preparation on the divided budgets.
+// By the entry: it takes window, samples, tolerance and events apart; the runs have another list and another window.
 #![tactic(auto)]
 
-ghost use Rattle.std.specs.Prelude.{◌≡◌, ◌≤◌, length};
+ghost use Rattle.std.specs.Prelude.{◌≡◌, [], ◌≤◌, OnErr, length};
 ghost use Rattle.limits.specs.Limits.{states, most_cycle_events};
-ghost use Rattle.refusal.specs.Numbers.{outcome_with};
+ghost use Rattle.refusal.specs.Numbers.{result_of};
 ghost use Rattle.cycle.specs.Closed.{untimed, tolerance_passes, ready};
 
 use cycle::SteadyStateTolerance;
@@ -18,22 +19,42 @@ fn tolerance_passes(tolerance: SteadyStateTolerance) -> bool
     binary64::is_positive(tolerance.absolute) & binary64::is_nonnegative(tolerance.relative)
 }
 
-// 19; the fold; the preparation of its list without samples, on the divided budgets: the folded list.
+// 19; the fold; the preparation of its list without samples, on the divided budgets.
+fn fold_and_prepare(
+    n: usize,
+    window: Window,
+    samples: &[f64],
+    tolerance: SteadyStateTolerance,
+    events: &[Event],
+    list: &mut EventList,
+) -> Result<(), Refusal>
+    requires { (n ≤ states) × (length events.now ≤ most_cycle_events) }
+    ensures { untimed (result_of result list.new.items) ≡ ready n window samples.now events.now tolerance }
+{
+    if !tolerance_passes(tolerance) {
+        return Err(Refusal::Tolerance);
+    }
+    fold_events::folded(n, window, samples, events, list)?;
+    let budgets = periodic_inputs::divided(n, window);
+    preparation::prepared(n, budgets, &[], list)
+}
+
+// The folded list, prepared; an empty one at a refusal.
 pub fn prepare_periodic_steady_state(
     n: usize,
     window: Window,
     samples: &[f64],
     tolerance: SteadyStateTolerance,
     events: &[Event],
-) -> Result<EventList, Refusal>
+    list: &mut EventList,
+) -> Result<(), Refusal>
     requires { (n ≤ states) × (length events.now ≤ most_cycle_events) }
-    ensures { untimed (outcome_with (λ l. l.items) result) ≡ ready n window samples.now events.now tolerance }
+    ensures ready { untimed (result_of result list.new.items) ≡ ready n window samples.now events.now tolerance }
+    ensures refused { OnErr result (list.new.items ≡ []) }
 {
-    if !tolerance_passes(tolerance) {
-        return Err(Refusal::Tolerance);
+    let reply = fold_and_prepare(n, window, samples, tolerance, events, list);
+    if reply.is_err() {
+        list.clear();
     }
-    let folded = fold_events::folded(n, window, samples, events)?;
-    let budgets = periodic_inputs::divided(n, window);
-    preparation::prepared(n, budgets, &[], &folded)?;
-    Ok(folded)
+    reply
 }

@@ -33,7 +33,7 @@ pub fn execute_prepared_periodic_steady_state(
     }
     let candidate = periodic_candidate::solution(cycle)?;
     let acceptance = periodic_acceptance::accepted(cycle, tolerance, candidate)?;
-    periodic_acceptance::lay(n, candidate, amounts);
-    periodic_acceptance::lay(n, acceptance.residuals, residual);
+    amounts[..n].copy_from_slice(&candidate[..n]);
+    residual[..n].copy_from_slice(&acceptance.residuals[..n]);
     Ok(acceptance.maximum)
 }

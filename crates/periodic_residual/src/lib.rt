@@ -1,4 +1,5 @@
 // The residuals of a closed cycle: end minus start, and the greatest scaled one.
+// By fixed memory: amounts stand in arrays of the most states, the first n of which are a kernel's.
 #![tactic(auto)]
 
 ghost use Rattle.std.specs.Prelude.{◌≡◌, ◌≤◌, take};
@@ -11,6 +12,8 @@ use limits::STATES;
 use refusal::Refusal;
 
 // absolute + relative·max(|start|, |end|)
+// By the state: a tolerance is of the whole cycle, start and end of one state; no value holds the three.
+#[tactic(auto, unfolding(cycle::specs::Closed::scale_of))]
 pub fn scale(tolerance: SteadyStateTolerance, start: f64, end: f64) -> f64
     ensures { result ≡ scale_of tolerance start end }
 {

@@ -10,8 +10,9 @@ ghost use Rattle.periodic_runs.specs.Columns.{columns_of};
 
 use limits::{CYCLE_ROWS, CYCLE_VALUES, STATES};
 use linear_pk::LinearPk;
-use protocol::{Event, Window};
+use protocol::{Event, EventList, Window};
 use refusal::Refusal;
+use rows::{Rows, Stopped};
 
 // A refusal, and the time at which it stops a closed cycle.
 #[derive(Clone, Copy, Debug, PartialEq)]
@@ -29,6 +30,17 @@ impl From<Refusal> for Stop {
     }
 }
 
+impl From<Stopped> for Stop {
+    ghost from_gives = { λ z s. s ≡ record { refusal = z.refusal; time = z.time } };
+
+    fn from(stopped: Stopped) -> Stop {
+        Stop {
+            refusal: stopped.refusal,
+            time: stopped.time,
+        }
+    }
+}
+
 // A list that the preparation passes on the divided budgets, for the n states of a kernel.
 #[derive(Clone, Copy)]
 pub struct PreparedCycle<'a> {
@@ -40,7 +52,8 @@ pub struct PreparedCycle<'a> {
 }
 
 impl PreparedCycle<'_> {
-    // The run from the first n amounts, on the divided budgets, to the last post row.
+    // The run from the first n amounts, on the divided budgets, to the last post row. A call of its own, so that the rows lie in one place.
+    #[inline(never)]
     pub fn last_of(&self, initial: [f64; STATES]) -> Result<[f64; STATES], Stop>
         ensures { timed_with (take self.now.n) result
             ≡ last_of (propagator_of self.now.kernel) self.now.n self.now.window self.now.events.now (take self.now.n initial) }
@@ -48,6 +61,11 @@ impl PreparedCycle<'_> {
         let mut times = [0.0f64; CYCLE_ROWS];
         let mut sides = [0u8; CYCLE_ROWS];
         let mut values = [0.0f64; CYCLE_VALUES];
+        let mut rows = Rows {
+            times: &mut times,
+            sides: &mut sides,
+            values: &mut values,
+        };
         let end = simulation_matrix::on_schedule(
             self.kernel,
             self.n,
@@ -55,17 +73,9 @@ impl PreparedCycle<'_> {
             periodic_inputs::divided(self.n, self.window),
             self.events,
             &[],
-            &mut times,
-            &mut sides,
-            &mut values,
-        );
-        match end.reply {
-            Ok(()) => Ok(end.amounts),
-            Err(refusal) => Err(Stop {
-                refusal,
-                time: end.time,
-            }),
-        }
+            &mut rows,
+        )?;
+        Ok(end.amounts)
     }
 
     // The runs of the zeroed list from each unit amount in turn: column j in row j.
@@ -73,7 +83,8 @@ impl PreparedCycle<'_> {
         ensures { timed_with (λ cs. columns_of self.now.n cs self.now.n) result
             ≡ columns_to (propagator_of self.now.kernel) self.now.n self.now.window self.now.events.now self.now.n }
     {
-        let zeroed = periodic_inputs::homogeneous(self.events);
+        let mut zeroed = EventList::new();
+        periodic_inputs::homogeneous(self.events, &mut zeroed);
         let unit_runs = PreparedCycle {
             kernel: self.kernel,
             n: self.n,

@@ -1,4 +1,5 @@
 // The tests ahead of a run, behind those of the kernel and the amounts.
+// By the caller: of its three slices the lengths alone are read, and no type keeps that a slice of samples is within the limit.
 ghost use Rattle.std.specs.Prelude.{◌≡◌, [], ◌∷◌, ◌≤◌, length};
 ghost use Rattle.limits.specs.Limits.{states, most_events, most_samples};
 ghost use Rattle.refusal.specs.Numbers.{reply_number};
@@ -26,7 +27,7 @@ pub fn admitted(
         ∷ unless (room_for (reckoned samples.now events.now) n (room times sides values)) 4 ∷ [])) }
 {
     crate::prepared(n, window, samples, events)?;
-    let rows = 4 * events.len() + samples.len() + 2;
+    let rows = crate::reckoned_rows(samples, events);
     if (rows <= times) & ((rows <= sides) & (rows * n <= values)) {
         Ok(())
     } else {

@@ -1,4 +1,5 @@
 // `prepare_simulation`: 13, 10, 11, 12 event by event, 14.
+// By the entry: it takes window, events and samples apart; n is how many states a kernel has, no array's length.
 #![tactic(auto)]
 
 pub mod admission;
@@ -6,13 +7,20 @@ pub mod admission;
 ghost use Rattle.std.specs.Prelude.{◌≡◌, ◌≤◌, length};
 ghost use Rattle.limits.specs.Limits.{states, most_events};
 ghost use Rattle.refusal.specs.Numbers.{reply_number};
-ghost use Rattle.protocol.specs.Prepare.{prepare};
+ghost use Rattle.protocol.specs.Prepare.{reckoned, prepare};
 ghost use Rattle.preparation.specs.Preparation.{option_number, prepare_entry};
 
 use limits::{EVENTS, SAMPLES};
 use linear_pk::LinearPk;
 use protocol::{Event, Window};
 use refusal::Refusal;
+
+// The most rows that a run has: at an event and at its end two each, one a sample, two at the ends.
+pub fn reckoned_rows(samples: &[f64], events: &[Event]) -> usize
+    ensures { result ≡ reckoned samples.now events.now }
+{
+    4 * events.len() + samples.len() + 2
+}
 
 // Whether a run of n states takes the list: 13, 10, 11, 12, 14.
 pub fn prepared(n: usize, window: Window, samples: &[f64], events: &[Event]) -> Result<(), Refusal>
@@ -23,7 +31,7 @@ pub fn prepared(n: usize, window: Window, samples: &[f64], events: &[Event]) -> 
         return Err(Refusal::EventBudget);
     }
     preparation_validation::validate(n, window, samples, events)?;
-    let rows = 4 * events.len() + samples.len() + 2;
+    let rows = reckoned_rows(samples, events);
     if rows * n > window.outputs {
         return Err(Refusal::OutputBudget);
     }

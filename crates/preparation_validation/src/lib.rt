@@ -1,4 +1,5 @@
 // The tests of a window with its samples and events: 10, 11, 12 event by event.
+// By the entry: it takes window, samples and events apart, and a closed cycle has its list tested on divided budgets and without samples.
 #![tactic(auto)]
 
 ghost use Rattle.std.specs.Prelude.{◌≡◌, [], reverse};

@@ -1,5 +1,5 @@
 -- What the code replies of a printout, and what the output then holds. Definitions only.
-use Rattle.std.specs.Prelude.{◌≡◌, List, ℕ}
+use Rattle.std.specs.Prelude.{◌≡◌, List, ℕ, Float}
 use Rattle.binary64.specs.Doubles.{plus_zero}
 use Rattle.refusal.specs.Numbers.{reply_number}
 use Rattle.printout.specs.Printout.{refused_text}
@@ -12,6 +12,14 @@ pub record Prints (p : Printout) (old : List ℕ) (r : PrintReply) (new : List �
   pub length : r.length ≡ printed_length p.text old
   pub cells : new ≡ printed p.text old
 
--- a refusal ahead of the run
+-- a refusal, and its time
+abbrev pub refused_at : ℕ → Float → Printout
+refused_at c t = record { number = c; text = refused_text c t }
+
+-- ahead of the run
 abbrev pub refusal : ℕ → Printout
-refusal c = record { number = c; text = refused_text c plus_zero }
+refusal c = refused_at c plus_zero
+
+-- no refusal
+abbrev pub answer : List ℕ → Printout
+answer text = record { number = 0; text = text }

@@ -1,68 +1,21 @@
-// The bytes of a run's printout, into lent cells; its reply, and the printout of a refusal ahead of the run.
+// The bytes of a run's printout, into lent cells, and its reply; the printout of a refusal.
 #![tactic(auto)]
 
-ghost use Rattle.std.specs.Prelude.{◌≡◌, ◌*◌, ◌≤◌, length, eqb};
+ghost use Rattle.std.specs.Prelude.{◌≡◌, ◌≤◌, length, eqb};
 ghost use Rattle.limits.specs.Limits.{states, most_rows};
-ghost use Rattle.printout.specs.Printout.{rows_text, run_text};
-ghost use Rattle.printout.specs.Cells.{Wrote, printed, printed_length};
+ghost use Rattle.printout.specs.Printout.{rows_text, refused_text};
+ghost use Rattle.printout.specs.Cells.{Wrote};
 ghost use Rattle.refusal.specs.Numbers.{refusal_number, reply_number};
 ghost use Rattle.printout.specs.Printouts.{number_or_short};
-ghost use Rattle.printout.specs.Replies.{Prints, refusal as refusal_of};
+ghost use Rattle.printout.specs.Replies.{Prints, refusal as refusal_of, refused_at, answer};
 
-use printout_lines::{put_head, put_ordered, put_refused, run_length};
-use printout_rows::put_rows;
+use printout_lines::{put_head, put_named, put_refused, refused_length, run_length};
+use printout_numbers::Writer;
+use printout_rows::PrintedRows;
 use refusal::Refusal;
 
-// The text of a run that is not refused.
-fn put_run(
-    out: &mut [u8],
-    rows: usize,
-    n: usize,
-    ordered: f64,
-    times: &[f64],
-    sides: &[u8],
-    values: &[f64],
-) -> usize
-    requires { (rows ≤ length times.now) × (rows ≤ length sides.now) × (rows * n ≤ length values.now)
-        × (length (rows_text rows n ordered times.now sides.now values.now) ≤ length out.old) }
-    ensures { Wrote (rows_text rows n ordered times.now sides.now values.now) 0 out.old result
-        out.new }
-{
-    let at = put_head(out, rows);
-    let at = put_rows(out, at, rows, n, times, sides, values);
-    put_ordered(out, at, ordered)
-}
-
-// How many bytes the text has, which then stands in front; 0 where there is no room for it, and the cells are as they were.
-pub fn print_run(
-    number: u64,
-    time: f64,
-    rows: usize,
-    n: usize,
-    ordered: f64,
-    times: &[f64],
-    sides: &[u8],
-    values: &[f64],
-    out: &mut [u8],
-) -> usize
-    requires { (rows ≤ length times.now) × (rows ≤ length sides.now) × (rows * n ≤ length values.now) × (n ≤ states) × (rows ≤ most_rows) }
-    ensures value { result ≡ printed_length (run_text number time rows n ordered times.now sides.now values.now)
-        out.old }
-    ensures out_after { out.new ≡ printed (run_text number time rows n ordered times.now sides.now
-        values.now) out.old }
-{
-    if run_length(number, rows, n, sides) > out.len() {
-        return 0;
-    }
-    if number == 0 {
-        put_run(out, rows, n, ordered, times, sides, values)
-    } else {
-        put_refused(out, number, time)
-    }
-}
-
 // Whether the printout is an answer, and how many bytes it has, 0 where the output is too short; an answer without room is 4.
-// The length is no value of `Ok`: the text of a refusal has bytes too.
+// By length: it is no value of `Ok`, since the text of a refusal has bytes too.
 #[derive(Clone, Copy)]
 pub struct PrintReply {
     pub reply: Result<(), Refusal>,
@@ -82,23 +35,55 @@ pub fn reply_of(reply: Result<(), Refusal>, length: usize) -> PrintReply
     PrintReply { reply, length }
 }
 
+// The text of a run that is not refused.
+fn write_run(rows: &PrintedRows<'_>, ordered: f64, out: &mut [u8]) -> usize
+    requires { length (rows_text rows.now.rows rows.now.n ordered rows.now.times.now rows.now.sides.now rows.now.values.now) ≤ length out.old }
+    ensures { Wrote (rows_text rows.now.rows rows.now.n ordered rows.now.times.now rows.now.sides.now rows.now.values.now) 0 out.old result
+        out.new }
+{
+    let mut w = Writer { out, at: 0 };
+    put_head(&mut w, rows.rows);
+    rows.put(&mut w);
+    put_named(&mut w, b"ordered ", ordered);
+    w.at
+}
+
+// The printout of a run that is not refused, from the front; nothing is written where there is no room for it.
+pub fn print_run(rows: &PrintedRows<'_>, ordered: f64, out: &mut [u8]) -> PrintReply
+    requires { (rows.now.n ≤ states) × (rows.now.rows ≤ most_rows) }
+    ensures { Prints (answer (rows_text rows.now.rows rows.now.n ordered rows.now.times.now rows.now.sides.now rows.now.values.now)) out.old
+        result out.new }
+{
+    if run_length(rows) > out.len() {
+        return reply_of(Ok(()), 0);
+    }
+    let length = write_run(rows, ordered, out);
+    reply_of(Ok(()), length)
+}
+
+fn write_refused(refusal: Refusal, time: f64, out: &mut [u8]) -> usize
+    requires { length (refused_text (refusal_number refusal) time) ≤ length out.old }
+    ensures { Wrote (refused_text (refusal_number refusal) time) 0 out.old result out.new }
+{
+    let mut w = Writer { out, at: 0 };
+    put_refused(&mut w, refusal, time);
+    w.at
+}
+
+// The printout of a refusal and its time.
+pub fn print_refused(refusal: Refusal, time: f64, out: &mut [u8]) -> PrintReply
+    ensures { Prints (refused_at (refusal_number refusal) time) out.old result out.new }
+{
+    if refused_length(refusal) > out.len() {
+        return reply_of(Err(refusal), 0);
+    }
+    let length = write_refused(refusal, time, out);
+    reply_of(Err(refusal), length)
+}
+
 // A refusal ahead of the run.
 pub fn print_refusal(refusal: Refusal, out: &mut [u8]) -> PrintReply
     ensures { Prints (refusal_of (refusal_number refusal)) out.old result out.new }
 {
-    let number = refusal::number(Err(refusal));
-    let reals = [0.0f64; 1];
-    let sides = [0u8; 1];
-    let length = print_run(
-        number,
-        0.0,
-        0,
-        0,
-        0.0,
-        &reals[..],
-        &sides[..],
-        &reals[..],
-        out,
-    );
-    reply_of(Err(refusal), length)
+    print_refused(refusal, 0.0, out)
 }

@@ -1,7 +1,7 @@
 -- Lines of states, one by one, and how long they are.
 use mathlib.Core.Path.{◌≡◌, refl, sym, ap, ◌∙◌}
 use mathlib.Core.List.{List, [], ◌∷◌, ◌++◌, append-nil, append_assoc}
-use Prim.Native.Nat.{ℕ, zero, suc, ◌+◌, ◌*◌, ◌≤◌, ◌<◌}
+use Prim.Native.Nat.{ℕ, zero, suc, ◌+◌, ◌*◌, ◌<◌}
 use native.Mathlib.Nat.{le_of_suc-le-suc}
 use native.Mathlib.Numerals.{add-one}
 use native.Mathlib.Omega.{arith}
@@ -20,18 +20,12 @@ module _ (tol : SteadyStateTolerance) where
   unfolding cycle_line
   line_length s e = simp (length-append, field_length, double_length)
 
-  pub lines_length_lem : (k : ℕ) (xs ys : List Float) → k ≤ length xs → k ≤ length ys → length (cycle_lines tol (take k xs) (take k ys)) ≡ 68 * k
+  pub lines_length_lem : (xs ys : List Float) → length ys ≡ length xs → length (cycle_lines tol xs ys) ≡ 68 * length xs
   unfolding cycle_lines
-  lines_length_lem zero xs ys h l = refl
-  lines_length_lem (suc k) [] ys h l = absurd (omega arith)
-  lines_length_lem (suc k) (x ∷ xs) [] h l = absurd (omega arith)
-  lines_length_lem (suc k) (x ∷ xs) (y ∷ ys) h l =
-      omega (
-        arith,
-        length-append (cycle_line tol x y) (cycle_lines tol (take k xs) (take k ys)),
-        line_length x y,
-        lines_length_lem k xs ys (le_of_suc-le-suc h) (le_of_suc-le-suc l),
-      )
+  lines_length_lem [] ys h = refl
+  lines_length_lem (x ∷ xs) [] h = absurd (omega arith)
+  lines_length_lem (x ∷ xs) (y ∷ ys) h =
+      omega (arith, length-append (cycle_line tol x y) (cycle_lines tol xs ys), line_length x y, lines_length_lem xs ys (omega arith))
 
   -- one state more
   next_line : (k : ℕ) (xs ys : List Float) → k < length xs → k < length ys

@@ -1,18 +1,20 @@
 // The bytes of one more cycle from the amounts of a closed one, into lent cells, and whether it closes.
 #![tactic(auto)]
 
-ghost use Rattle.std.specs.Prelude.{◌≡◌, ◌≤◌, ◌+◌, ◌*◌, length, take};
+ghost use Rattle.std.specs.Prelude.{◌≡◌, ◌≤◌, ◌*◌, ◌++◌, length};
 ghost use Rattle.limits.specs.Limits.{states};
 ghost use Rattle.cycle.specs.Closed.{scaled_of};
 ghost use Rattle.printout_cycle.specs.Closes.{state_closes, closes as closesOf};
-ghost use Rattle.printout_numbers.specs.Written.{Wrote};
+ghost use Rattle.printout_numbers.specs.Writer.{HasRoom, Writes};
 ghost use Rattle.printout_cycle.specs.Lines.{field_text, cycle_line, cycle_lines};
-ghost use Rattle.printout.specs.Cells.{printed, printed_length};
-ghost use Rattle.printout_cycle.specs.CyclePrintout.{verdict_line, lines_text, cycle_of, lines_length};
+ghost use Rattle.printout.specs.Cells.{Wrote};
+ghost use Rattle.printout.specs.Replies.{Prints, answer};
+ghost use Rattle.printout_cycle.specs.CyclePrintout.{verdict_line, lines_text, lines_length};
 
 use cycle::SteadyStateTolerance;
 use periodic_residual::scale;
-use printout_numbers::{bits, put_bits, put_text};
+use printout::{PrintReply, reply_of};
+use printout_numbers::{Writer, bits};
 
 // |end − start| over the scale.
 pub fn scaled(tolerance: SteadyStateTolerance, start: f64, end: f64) -> f64
@@ -30,77 +32,38 @@ fn state_closes(tolerance: SteadyStateTolerance, start: f64, end: f64, residual:
     binary64::is_finite(divisor) & ((ratio <= 1.0) & (bits(end - start) == bits(residual)))
 }
 
-pub fn closes(
-    tolerance: SteadyStateTolerance,
-    n: usize,
-    starts: &[f64],
-    ends: &[f64],
-    residual: &[f64],
-) -> bool
-    requires { (n ≤ length starts.now) × (n ≤ length ends.now) × (n ≤ length residual.now) }
-    ensures { result ≡ closesOf tolerance (take n starts.now) (take n ends.now) (take n residual.now) }
-{
-    let mut ok = true;
-    for k in 0..n {
-        ok = ok & state_closes(tolerance, starts[k], ends[k], residual[k]);
-    }
-    ok
-}
-
 // A double and a space.
-fn put_field(out: &mut [u8], at: usize, x: f64) -> usize
-    requires { at + 17 ≤ length out.old }
-    ensures { Wrote (field_text x) at out.old result out.new }
+#[tactic(auto, using(printout_numbers::proofs::Counts::double_length))]
+fn put_field(w: &mut Writer<'_>, x: f64)
+    requires { HasRoom 17 w.old }
+    ensures { Writes (field_text x) w.old w.new }
 {
-    let at = put_bits(out, at, x);
-    put_text(out, at, b" ")
+    w.put_bits(x);
+    w.put_text(b" ");
 }
 
 // Start, end, residual and scaled residual of a state.
-fn cycle_line(
-    out: &mut [u8],
-    at: usize,
-    tolerance: SteadyStateTolerance,
-    start: f64,
-    end: f64,
-) -> usize
-    requires { at + 68 ≤ length out.old }
-    ensures { Wrote (cycle_line tolerance start end) at out.old result out.new }
+#[tactic(auto, using(crate::proofs::Lengths::field_length, printout_numbers::proofs::Counts::double_length))]
+fn cycle_line(w: &mut Writer<'_>, tolerance: SteadyStateTolerance, start: f64, end: f64)
+    requires { HasRoom 68 w.old }
+    ensures { Writes (cycle_line tolerance start end) w.old w.new }
 {
-    let at = put_field(out, at, start);
-    let at = put_field(out, at, end);
-    let at = put_field(out, at, end - start);
-    let at = put_bits(out, at, scaled(tolerance, start, end));
-    put_text(out, at, b"\n")
-}
-
-// The lines of the first n states.
-pub fn put_lines(
-    out: &mut [u8],
-    tolerance: SteadyStateTolerance,
-    n: usize,
-    starts: &[f64],
-    ends: &[f64],
-) -> usize
-    requires { (n ≤ length starts.now) × (n ≤ length ends.now) × (68 * n ≤ length out.old) }
-    ensures { Wrote (cycle_lines tolerance (take n starts.now) (take n ends.now)) 0 out.old result out.new }
-{
-    let mut place = 0usize;
-    for k in 0..n {
-        place = cycle_line(out, place, tolerance, starts[k], ends[k]);
-    }
-    place
+    put_field(w, start);
+    put_field(w, end);
+    put_field(w, end - start);
+    w.put_bits(scaled(tolerance, start, end));
+    w.put_text(b"\n");
 }
 
 // "closed" or "not closed".
-fn put_verdict(out: &mut [u8], at: usize, closed: bool) -> usize
-    requires { at + length (verdict_line closed) ≤ length out.old }
-    ensures { Wrote (verdict_line closed) at out.old result out.new }
+fn put_verdict(w: &mut Writer<'_>, closed: bool)
+    requires { HasRoom (length (verdict_line closed)) w.old }
+    ensures { Writes (verdict_line closed) w.old w.new }
 {
     if closed {
-        put_text(out, at, b"closed\n")
+        w.put_text(b"closed\n");
     } else {
-        put_text(out, at, b"not closed\n")
+        w.put_text(b"not closed\n");
     }
 }
 
@@ -111,25 +74,66 @@ fn lines_length(n: usize, closed: bool) -> usize
     if closed { 68 * n + 7 } else { 68 * n + 11 }
 }
 
-// How many bytes the text has, which then stands in front; 0 where there is no room for it, and the cells are as they were.
-pub fn print_cycle(
-    tolerance: SteadyStateTolerance,
-    n: usize,
-    starts: &[f64],
-    ends: &[f64],
-    residual: &[f64],
-    out: &mut [u8],
-) -> usize
-    requires { (n ≤ length starts.now) × (n ≤ length ends.now) × (n ≤ length residual.now) × (n ≤ states) }
-    ensures value { result ≡ printed_length (lines_text (cycle_of tolerance n starts.now ends.now residual.now))
-        out.old }
-    ensures out_after { out.new ≡ printed (lines_text (cycle_of tolerance n starts.now ends.now
-        residual.now)) out.old }
-{
-    let closed = closes(tolerance, n, starts, ends, residual);
-    if lines_length(n, closed) > out.len() {
-        return 0;
+// The amounts at the start and at the end of a cycle, and the residuals that its solution told, of each state.
+#[derive(Clone, Copy)]
+pub struct PrintedCycle<'a> {
+    pub tolerance: SteadyStateTolerance,
+    pub starts: &'a [f64],
+    pub ends: &'a [f64],
+    pub residuals: &'a [f64],
+    ghost ended: { length ends.now ≡ length starts.now },
+    ghost told: { length residuals.now ≡ length starts.now },
+}
+
+impl PrintedCycle<'_> {
+    pub fn closes(&self) -> bool
+        ensures { result ≡ closesOf self.now.tolerance self.now.starts.now self.now.ends.now self.now.residuals.now }
+    {
+        let mut ok = true;
+        // By index: a zip of three is no plainer.
+        for k in 0..self.starts.len() {
+            let start = self.starts[k];
+            let end = self.ends[k];
+            ok = ok & state_closes(self.tolerance, start, end, self.residuals[k]);
+        }
+        ok
     }
-    let at = put_lines(out, tolerance, n, starts, ends);
-    put_verdict(out, at, closed)
+
+    // The lines of all states.
+    pub fn put_lines(&self, w: &mut Writer<'_>)
+        requires { HasRoom (68 * length self.now.starts.now) w.old }
+        ensures { Writes (cycle_lines self.now.tolerance self.now.starts.now self.now.ends.now) w.old w.new }
+    {
+        for (start, end) in self.starts.iter().zip(self.ends) {
+            cycle_line(w, self.tolerance, *start, *end);
+        }
+    }
+
+    fn write(&self, closed: bool, out: &mut [u8]) -> usize
+        requires { lines_length (length self.now.starts.now) closed ≤ length out.old }
+        ensures { Wrote (cycle_lines self.now.tolerance self.now.starts.now self.now.ends.now ++ verdict_line closed) 0 out.old result out.new }
+    {
+        let mut w = Writer { out, at: 0 };
+        self.put_lines(&mut w);
+        put_verdict(&mut w, closed);
+        w.at
+    }
+
+    // The printout from the front; nothing is written where there is no room for it.
+    pub fn print(&self, out: &mut [u8]) -> PrintReply
+        requires { length self.now.starts.now ≤ states }
+        ensures { Prints (answer (lines_text (record {
+          tolerance = self.now.tolerance;
+          starts = self.now.starts.now;
+          ends = self.now.ends.now;
+          residuals = self.now.residuals.now;
+        }))) out.old result out.new }
+    {
+        let closed = self.closes();
+        if lines_length(self.starts.len(), closed) > out.len() {
+            return reply_of(Ok(()), 0);
+        }
+        let length = self.write(closed, out);
+        reply_of(Ok(()), length)
+    }
 }

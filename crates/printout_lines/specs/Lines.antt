@@ -7,9 +7,13 @@ use Rattle.printout_numbers.specs.Digits.{decimal, double_text}
 unfoldable pub head_line : ℕ → List ℕ
 head_line rows = (114 ∷ 111 ∷ 119 ∷ 115 ∷ 32 ∷ []) ++ decimal rows ++ (10 ∷ [])
 
+-- a name and a double
+abbrev pub named_line : List ℕ → Float → List ℕ
+named_line name x = name ++ double_text x ++ (10 ∷ [])
+
 -- "ordered" and the sum
 unfoldable pub ordered_line : Float → List ℕ
-ordered_line ordered = (111 ∷ 114 ∷ 100 ∷ 101 ∷ 114 ∷ 101 ∷ 100 ∷ 32 ∷ []) ++ double_text ordered ++ (10 ∷ [])
+ordered_line ordered = named_line (111 ∷ 114 ∷ 100 ∷ 101 ∷ 114 ∷ 101 ∷ 100 ∷ 32 ∷ []) ordered
 
 -- "refused", the number, the time
 unfoldable pub refused_text : ℕ → Float → List ℕ

@@ -11,6 +11,8 @@ use borrow.Rule.Slice.PartMut.{mid_of, put_mid, same_len_mid}
 use Rattle.std.proofs.lemmas.List.Edits.{sets-eq}
 use Rattle.printout_numbers.specs.Digits.{glyph, digits}
 use Rattle.printout_numbers.specs.Written.{Wrote}
+use Rattle.printout_numbers.specs.Writer.{Writes}
+use Rattle.printout_numbers.specs.declared.Writer.{Writer}
 
 moved : (k j : ℕ) → suc k + j ≡ k + suc j
 moved k j = omega arith
@@ -88,3 +90,10 @@ wrote_part at n text old part h e q = record {
   where
     mid_all : (a k : ℕ) (xs : List ℕ) → a + k ≤ length xs → length (mid_of a k xs) ≡ k
     mid_all a k xs g = length-take-le k (drop a xs) (omega (arith, length-drop a xs))
+
+-- ---- the same of a writer
+pub writes_both : {a b : List ℕ} {u v w : Writer} → Writes a u v → Writes b v w → Writes (a ++ b) u w
+writes_both f g = record { lent = g.lent ∙ f.lent; wrote = wrote_both f.wrote g.wrote }
+
+pub writes_none : (w : Writer) → Writes [] w w
+writes_none w = record { lent = refl; wrote = wrote_none w.at w.out.now }

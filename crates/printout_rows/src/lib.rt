@@ -1,71 +1,75 @@
 // The rows of a printout as lines.
 #![tactic(auto)]
 
-ghost use Rattle.std.specs.Prelude.{◌∷◌, ◌+◌, ◌*◌, ◌≤◌, length};
+ghost use Rattle.std.specs.Prelude.{◌∷◌, ◌*◌, length};
 ghost use Rattle.printout_numbers.specs.Digits.{double_text};
-ghost use Rattle.printout_numbers.specs.Written.{Wrote};
+ghost use Rattle.printout_numbers.specs.Writer.{HasRoom, Writes};
 ghost use Rattle.printout_rows.specs.Row.{side_text, amounts_text, row_line, side_length};
-ghost use Rattle.printout_rows.specs.Rows.{row_lines};
+ghost use Rattle.printout_rows.specs.Rows.{row_lines, HasRows};
 
-use printout_numbers::{put_bits, put_text};
+use printout_numbers::Writer;
 
-fn put_side(out: &mut [u8], at: usize, side: u8) -> usize
-    requires { at + side_length side ≤ length out.old }
-    ensures { Wrote (side_text side) at out.old result out.new }
+// By byte: a side is that of a lent cell, which may hold any.
+fn put_side(w: &mut Writer<'_>, side: u8)
+    requires { HasRoom (side_length side) w.old }
+    ensures { Writes (side_text side) w.old w.new }
 {
-    put_text(out, at, if side == 1 { b"pre" } else { b"post" })
+    w.put_text(if side == 1 { b"pre" } else { b"post" });
 }
 
-fn put_amount(out: &mut [u8], at: usize, x: f64) -> usize
-    requires { at + 17 ≤ length out.old }
-    ensures { Wrote (32 ∷ double_text x) at out.old result out.new }
+fn put_amount(w: &mut Writer<'_>, x: f64)
+    requires { HasRoom 17 w.old }
+    ensures { Writes (32 ∷ double_text x) w.old w.new }
 {
-    let at = put_text(out, at, b" ");
-    put_bits(out, at, x)
+    w.put_text(b" ");
+    w.put_bits(x);
 }
 
 #[tactic(auto, using(crate::proofs::RowLengths::lengths))]
-fn put_amounts(out: &mut [u8], at: usize, amounts: &[f64]) -> usize
-    requires { at + 17 * length amounts.now ≤ length out.old }
-    ensures { Wrote (amounts_text amounts.now) at out.old result out.new }
+fn put_amounts(w: &mut Writer<'_>, amounts: &[f64])
+    requires { HasRoom (17 * length amounts.now) w.old }
+    ensures { Writes (amounts_text amounts.now) w.old w.new }
 {
-    let mut place = at;
     for x in amounts {
-        place = put_amount(out, place, *x);
+        put_amount(w, *x);
     }
-    place
 }
 
+// By byte: its side is that of a lent cell.
 #[tactic(auto, using(crate::proofs::RowLengths::lengths))]
-pub fn row_line(out: &mut [u8], at: usize, time: f64, side: u8, amounts: &[f64]) -> usize
-    requires { at + length (row_line time side amounts.now) ≤ length out.old }
-    ensures { Wrote (row_line time side amounts.now) at out.old result out.new }
+pub fn row_line(w: &mut Writer<'_>, time: f64, side: u8, amounts: &[f64])
+    requires { HasRoom (length (row_line time side amounts.now)) w.old }
+    ensures { Writes (row_line time side amounts.now) w.old w.new }
 {
-    let at = put_bits(out, at, time);
-    let at = put_text(out, at, b" ");
-    let at = put_side(out, at, side);
-    let at = put_amounts(out, at, amounts);
-    put_text(out, at, b"\n")
+    w.put_bits(time);
+    w.put_text(b" ");
+    put_side(w, side);
+    put_amounts(w, amounts);
+    w.put_text(b"\n");
 }
 
-// The lines of the first rows.
-pub fn put_rows(
-    out: &mut [u8],
-    at: usize,
-    rows: usize,
-    n: usize,
-    times: &[f64],
-    sides: &[u8],
-    values: &[f64],
-) -> usize
-    requires { (rows ≤ length times.now) × (rows ≤ length sides.now) × (rows * n ≤ length values.now)
-        × (at + length (row_lines n rows times.now sides.now values.now) ≤ length out.old) }
-    ensures { Wrote (row_lines n rows times.now sides.now values.now) at out.old result out.new }
-{
-    let mut place = at;
-    for k in 0..rows {
-        let from = k * n;
-        place = row_line(out, place, times[k], sides[k], &values[from..from + n]);
+// The first rows of a run, of n amounts each.
+#[derive(Clone, Copy)]
+pub struct PrintedRows<'a> {
+    pub n: usize,
+    pub rows: usize,
+    pub times: &'a [f64],
+    pub sides: &'a [u8],
+    pub values: &'a [f64],
+    ghost held: { HasRows n rows times.now sides.now values.now },
+}
+
+impl PrintedRows<'_> {
+    // Their lines.
+    pub fn put(&self, w: &mut Writer<'_>)
+        requires { HasRoom (length (row_lines self.now.n self.now.rows self.now.times.now self.now.sides.now self.now.values.now)) w.old }
+        ensures { Writes (row_lines self.now.n self.now.rows self.now.times.now self.now.sides.now self.now.values.now) w.old w.new }
+    {
+        // By index: chunks of n amounts would ask that n is not 0.
+        for k in 0..self.rows {
+            let from = k * self.n;
+            let amounts = &self.values[from..from + self.n];
+            row_line(w, self.times[k], self.sides[k], amounts);
+        }
     }
-    place
 }

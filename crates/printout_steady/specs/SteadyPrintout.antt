@@ -1,6 +1,6 @@
 -- The bytes of a closed cycle's printout: 01, "The sheet and its printout". A text is the list of its bytes. Definitions only.
 use Rattle.std.specs.Prelude.{ℕ, ◌+◌, ◌*◌, cond, List, [], ◌∷◌, ◌++◌, eqb, take, Float}
-use Rattle.printout.specs.Printout.{places, double_text, refused_text}
+use Rattle.printout.specs.Printout.{double_text, refused_text}
 use Rattle.cycle.specs.Closed.{Timed, stopped, got, SteadyState}
 
 -- amount and residual of a state
@@ -35,6 +35,3 @@ steady_result number time n maximum amounts residual = cond (eqb number 0) (got 
 -- ---- its length
 abbrev pub solved_length : ℕ → ℕ
 solved_length n = 34 * n + 21
-
-abbrev pub steady_length : ℕ → ℕ → ℕ
-steady_length number n = cond (eqb number 0) (solved_length n) (26 + places 19 number)

@@ -1,98 +1,64 @@
 // The bytes of a closed cycle's printout, into lent cells.
 #![tactic(auto)]
 
-ghost use Rattle.std.specs.Prelude.{◌≡◌, ◌+◌, ◌*◌, ◌≤◌, length, take};
+ghost use Rattle.std.specs.Prelude.{◌≡◌, ◌+◌, ◌*◌, ◌≤◌, length};
 ghost use Rattle.limits.specs.Limits.{states};
-ghost use Rattle.printout.specs.Cells.{Wrote, printed, printed_length};
-ghost use Rattle.printout_steady.specs.SteadyPrintout.{state_line, state_lines, max_line, solved_text, steady_text, solved_of};
-ghost use Rattle.printout_steady.specs.SteadyPrintout.{steady_result, solved_length, steady_length};
+ghost use Rattle.printout_numbers.specs.Writer.{HasRoom, Writes};
+ghost use Rattle.printout.specs.Cells.{Wrote};
+ghost use Rattle.printout_steady.specs.SteadyPrintout.{state_line, state_lines, solved_text, solved_length};
 ghost use Rattle.periodic_acceptance.specs.Entry.{steady_reply};
-ghost use Rattle.printout.specs.Replies.{Prints};
+ghost use Rattle.printout.specs.Replies.{Prints, answer};
 ghost use Rattle.printout_steady.specs.SteadyReplies.{steady_printout_of};
 
 use periodic_acceptance::Stop;
-use printout::PrintReply;
-use printout_lines::put_refused;
-use printout_numbers::{places, put_bits, put_text};
-use refusal::Refusal;
+use printout::{PrintReply, reply_of};
+use printout_lines::put_named;
+use printout_numbers::Writer;
 
 // Amount and residual of a state.
-fn state_line(out: &mut [u8], at: usize, amount: f64, residual: f64) -> usize
-    requires { at + 34 ≤ length out.old }
-    ensures { Wrote (state_line amount residual) at out.old result out.new }
+#[tactic(auto, using(printout_numbers::proofs::Counts::double_length))]
+fn state_line(w: &mut Writer<'_>, amount: f64, residual: f64)
+    requires { HasRoom 34 w.old }
+    ensures { Writes (state_line amount residual) w.old w.new }
 {
-    let at = put_bits(out, at, amount);
-    let at = put_text(out, at, b" ");
-    let end = put_bits(out, at, residual);
-    put_text(out, end, b"\n")
+    w.put_bits(amount);
+    w.put_text(b" ");
+    w.put_bits(residual);
+    w.put_text(b"\n");
 }
 
-// The lines of the first n states.
-fn put_states(out: &mut [u8], n: usize, amounts: &[f64], residual: &[f64]) -> usize
-    requires { (n ≤ length amounts.now) × (n ≤ length residual.now) × (34 * n ≤ length out.old) }
-    ensures { Wrote (state_lines (take n amounts.now) (take n residual.now)) 0 out.old result out.new }
+// The lines of all states.
+fn put_states(w: &mut Writer<'_>, amounts: &[f64], residual: &[f64])
+    requires { (length residual.now ≡ length amounts.now) × HasRoom (34 * length amounts.now) w.old }
+    ensures { Writes (state_lines amounts.now residual.now) w.old w.new }
 {
-    let mut place = 0usize;
-    for k in 0..n {
-        place = state_line(out, place, amounts[k], residual[k]);
+    for (amount, rest) in amounts.iter().zip(residual) {
+        state_line(w, *amount, *rest);
     }
-    place
-}
-
-// "max" and the greatest scaled residual.
-fn put_max(out: &mut [u8], at: usize, maximum: f64) -> usize
-    requires { at + 21 ≤ length out.old }
-    ensures { Wrote (max_line maximum) at out.old result out.new }
-{
-    let at = put_text(out, at, b"max ");
-    let at = put_bits(out, at, maximum);
-    put_text(out, at, b"\n")
 }
 
 // The text of a cycle that is not refused.
-fn put_solved(out: &mut [u8], n: usize, maximum: f64, amounts: &[f64], residual: &[f64]) -> usize
-    requires { (n ≤ length amounts.now) × (n ≤ length residual.now) × (solved_length n ≤ length out.old) }
-    ensures { Wrote (solved_text (solved_of n maximum amounts.now residual.now)) 0 out.old result out.new }
+fn write_solved(maximum: f64, amounts: &[f64], residual: &[f64], out: &mut [u8]) -> usize
+    requires { (length residual.now ≡ length amounts.now) × (solved_length (length amounts.now) ≤ length out.old) }
+    ensures { Wrote (solved_text (record { amounts = amounts.now; residuals = residual.now; maximum = maximum })) 0 out.old result out.new }
 {
-    let at = put_states(out, n, amounts, residual);
-    put_max(out, at, maximum)
+    let mut w = Writer { out, at: 0 };
+    put_states(&mut w, amounts, residual);
+    put_named(&mut w, b"max ", maximum);
+    w.at
 }
 
-// How many bytes the text has.
-fn steady_length(number: u64, n: usize) -> usize
-    requires { n ≤ states }
-    ensures { result ≡ steady_length number n }
+// The printout of a cycle that is not refused, from the front; nothing is written where there is no room for it.
+pub fn print_solved(maximum: f64, amounts: &[f64], residual: &[f64], out: &mut [u8]) -> PrintReply
+    requires { (length residual.now ≡ length amounts.now) × (length amounts.now ≤ states) }
+    ensures { Prints (answer (solved_text (record { amounts = amounts.now; residuals = residual.now; maximum = maximum }))) out.old result
+        out.new }
 {
-    if number == 0 {
-        34 * n + 21
-    } else {
-        26 + places(number)
+    if 34 * amounts.len() + 21 > out.len() {
+        return reply_of(Ok(()), 0);
     }
-}
-
-// How many bytes the text has, which then stands in front; 0 where there is no room for it, and the cells are as they were.
-pub fn print_steady(
-    number: u64,
-    time: f64,
-    n: usize,
-    maximum: f64,
-    amounts: &[f64],
-    residual: &[f64],
-    out: &mut [u8],
-) -> usize
-    requires { (n ≤ length amounts.now) × (n ≤ length residual.now) × (n ≤ states) }
-    ensures value { result ≡ printed_length (steady_text (steady_result number time n maximum amounts.now residual.now)) out.old }
-    ensures out_after { out.new ≡ printed (steady_text (steady_result number time n maximum amounts.now
-        residual.now)) out.old }
-{
-    if steady_length(number, n) > out.len() {
-        return 0;
-    }
-    if number == 0 {
-        put_solved(out, n, maximum, amounts, residual)
-    } else {
-        put_refused(out, number, time)
-    }
+    let length = write_solved(maximum, amounts, residual, out);
+    reply_of(Ok(()), length)
 }
 
 // The printout of a reply and of n states in front of the slices.
@@ -107,14 +73,7 @@ pub fn print_reply(
     ensures { Prints (steady_printout_of (steady_reply reply) n amounts.now residual.now) out.old result out.new }
 {
     match reply {
-        Err(stop) => {
-            let number = refusal::number(Err(stop.refusal));
-            let length = print_steady(number, stop.time, n, 0.0, amounts, residual, out);
-            printout::reply_of(Err(stop.refusal), length)
-        }
-        Ok(maximum) => {
-            let length = print_steady(0, 0.0, n, maximum, amounts, residual, out);
-            printout::reply_of(Ok(()), length)
-        }
+        Err(stop) => printout::print_refused(stop.refusal, stop.time, out),
+        Ok(maximum) => print_solved(maximum, &amounts[..n], &residual[..n], out),
     }
 }

@@ -57,6 +57,7 @@ pub enum Refusal {
 }
 
 // 01's number of a reply; 0 stands for done.
+// By name: a `From` would be of two types of the library, and none of this crate.
 pub fn number(reply: Result<(), Refusal>) -> u64
     ensures { result ≡ reply_number reply }
 {

@@ -1,5 +1,6 @@
 // What programs that replay stored answers share: the loop over the lines, the numbers of a line and what they stand for, a line's sheet, the
-// counts of what the calls replied.
+// counts of what the calls replied. That the calls succeed, but for memory that runs out, the replays of the stored answers show: `numbers`,
+// `doubles` and `Parameters::read` in `replay_linear_pk`, `Sheet::read` in `replay_sheets`, and `replay_lines` in each.
 #![tactic(auto)]
 
 mod error;
@@ -11,7 +12,7 @@ mod words;
 
 pub use error::LineError;
 pub use parameters::Parameters;
-pub use replay::replay_lines;
+pub use replay::{replay_lines, replay_main};
 pub use sheet::{SHEET, Sheet};
-pub use tally::Called;
+pub use tally::{Called, Tally};
 pub use words::{Words, doubles, numbers};

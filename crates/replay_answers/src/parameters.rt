@@ -1,5 +1,9 @@
 // The parameters of a kernel.
-ghost use Rattle.std.specs.Prelude.{◌≤◌, vec_len};
+ghost use Rattle.std.specs.Prelude.{◌≡◌, ◌≤◌, vec_len};
+ghost use Rattle.refusal.specs.Numbers.{outcome_of};
+ghost use Rattle.linear_pk.specs.LinearPk.{new as kernel_of};
+ghost use Rattle.replay_answers.specs.Outcomes.{GivesInMemory};
+ghost use Rattle.replay_answers.specs.Parameters.{parameters_of};
 
 use crate::LineError;
 use crate::words::{Words, doubles};
@@ -18,6 +22,7 @@ pub struct Parameters {
 
 impl Parameters {
     // Clearance, lists of volumes and exchanges with these rooms, depot 0 or 1, absorption.
+    #[tactic(auto, using(crate::proofs::Exits::err_from_is_err_and), unfolding(crate::specs::Parameters::parameters_of, crate::specs::Words::then))]
     pub fn read(
         alloc: Global,
         words: &mut Words<'_>,
@@ -25,6 +30,8 @@ impl Parameters {
         exchanges: usize,
     ) -> Result<Self, LineError>
         requires { volumes ≤ 4 }
+        ensures { GivesInMemory (λ p. ((p.clearance, p.volumes.items, p.exchanges.items, p.absorption), words.new.rest.now)) result
+            (parameters_of volumes exchanges words.old.rest.now) }
     {
         let clearance = words.double()?;
         let volumes = doubles(alloc, words.list(volumes)?)?;
@@ -41,7 +48,9 @@ impl Parameters {
     }
 
     // The kernel, or the refusal.
-    pub fn made(&self) -> Result<LinearPk, Refusal> {
+    pub fn made(&self) -> Result<LinearPk, Refusal>
+        ensures { outcome_of result ≡ kernel_of self.now.clearance self.now.volumes.items self.now.exchanges.items self.now.absorption }
+    {
         LinearPk::new(
             self.clearance,
             self.volumes.as_slice(),

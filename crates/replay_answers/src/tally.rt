@@ -1,16 +1,37 @@
-// How often each entry gave each reply, and how many answers differ. A write that fails is passed over.
+// How often each entry gave each outcome, and how many answers differ. A write that fails is passed over.
+ghost use Rattle.std.specs.Prelude.{◌≡◌, ◌==◌, ◌&&◌, OnOk};
+ghost use Rattle.refusal.specs.Numbers.{reply_number};
+ghost use Rattle.replay_answers.specs.Tally.{counts_of, no_counts, skipped, answered};
+
+use refusal::Refusal;
 use std::alloc::{AllocError, Global};
 use std::collections::BTreeMap;
 use std::fmt::Display;
 
-// What a line's call came to: the entry, its reply's number, whether the answer is the stored one.
+// What a line's call came to: the entry, its outcome, whether the answer is the stored one.
 #[derive(Clone, Copy)]
 pub struct Called<E> {
     pub entry: E,
-    pub reply: u64,
+    pub outcome: Result<(), Refusal>,
     pub same: bool,
 }
 
+impl<E> Called<E> {
+    // A line stores an outcome as its number; `same` says whether the rest of the answer is the stored one.
+    pub fn new(entry: E, outcome: Result<(), Refusal>, stored: u64, same: bool) -> Self
+        ensures entry { result.entry ≡ entry }
+        ensures outcome { result.outcome ≡ outcome }
+        ensures same { result.same ≡ (same && reply_number outcome == stored) }
+    {
+        Called {
+            entry,
+            outcome,
+            same: same && refusal::number(outcome) == stored,
+        }
+    }
+}
+
+// By number: what is printed for an entry goes by the numbers of its outcomes.
 #[derive(Drop)]
 pub struct Tally<E: Ord> {
     counts: BTreeMap<(E, u64), u64>,
@@ -20,7 +41,9 @@ pub struct Tally<E: Ord> {
 }
 
 impl<E: Ord + Display + Drop> Tally<E> {
-    pub fn new(alloc: Global) -> Self {
+    pub(crate) fn new(alloc: Global) -> Self
+        ensures { counts_of result ≡ no_counts }
+    {
         Tally {
             counts: BTreeMap::new(alloc),
             lines: 0,
@@ -30,21 +53,27 @@ impl<E: Ord + Display + Drop> Tally<E> {
     }
 
     // With a line that is a comment.
-    pub fn skip(&mut self) {
+    pub(crate) fn skip(&mut self)
+        ensures { counts_of self.new ≡ skipped (counts_of self.old) }
+    {
         self.lines = self.lines.saturating_add(1);
     }
 
     // With a line and what its call came to, if the line is in the layout. A difference is shown.
-    pub fn add(&mut self, rt: &impl Print, called: Option<Called<E>>) -> Result<(), AllocError> {
+    pub(crate) fn add(
+        &mut self,
+        rt: &impl Print,
+        called: Option<Called<E>>,
+    ) -> Result<(), AllocError>
+        ensures { OnOk result (counts_of self.new ≡ answered called (counts_of self.old)) }
+    {
         self.lines = self.lines.saturating_add(1);
         self.answers = self.answers.saturating_add(1);
         let mut same = false;
         if let Some(called) = called {
             same = called.same;
-            let count = self
-                .counts
-                .entry((called.entry, called.reply))?
-                .or_insert(0);
+            let number = refusal::number(called.outcome);
+            let count = self.counts.entry((called.entry, number))?.or_insert(0);
             *count = count.saturating_add(1);
         }
         if !same {
@@ -55,9 +84,9 @@ impl<E: Ord + Display + Drop> Tally<E> {
         Ok(())
     }
 
-    pub fn print(&self, rt: &impl Print) {
-        for ((entry, reply), count) in &self.counts {
-            let _ = println!(rt; "{entry} {reply}: {count}");
+    pub(crate) fn print(&self, rt: &impl Print) {
+        for ((entry, number), count) in &self.counts {
+            let _ = println!(rt; "{entry} {number}: {count}");
         }
         let answers = self.answers;
         let differ = self.differ;

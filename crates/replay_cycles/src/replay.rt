@@ -55,7 +55,7 @@ pub fn replay(alloc: Global, line: &str) -> Result<Called<NormalizePeriodicCycle
     let numbers = numbers(alloc, line)?;
     let mut words = Words::new(numbers.as_slice());
     let cycle = Cycle::read(alloc, &mut words)?;
-    let number = words.word()?;
+    let stored = words.word()?;
     let pieces = words.items(PIECES, EVENT_SIZE)?;
     words.end()?;
     let mut cells = vec![in alloc; CELL; CELLS]?;
@@ -70,13 +70,7 @@ pub fn replay(alloc: Global, line: &str) -> Result<Called<NormalizePeriodicCycle
     let mut expected = Vec::new(alloc);
     expected.extend_from_slice(pieces)?;
     expected.resize(CELLS, CELL)?;
-    let (reply, count) = match folded {
-        Ok(count) => (0, count),
-        Err(refusal) => (refusal::number(Err(refusal)), 0),
-    };
-    Ok(Called {
-        entry: NormalizePeriodicCycle,
-        reply,
-        same: reply == number && count == pieces.len() / EVENT_SIZE && cells == expected,
-    })
+    let count = folded.unwrap_or(0);
+    let same = count == pieces.len() / EVENT_SIZE && cells == expected;
+    Ok(Called::new(NormalizePeriodicCycle, folded.map(|_| ()), stored, same))
 }

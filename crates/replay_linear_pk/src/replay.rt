@@ -1,8 +1,9 @@
 // One line: a call of the library, and the answer that it must give.
 use limits::STATES;
 use linear_pk::LinearPk;
+use refusal::Refusal;
 use replay_answers::{Called, LineError, Parameters, Words, doubles, numbers};
-use replay_numbers::same;
+use replay_numbers::all_same;
 use std::alloc::{AllocError, Global};
 use std::fmt;
 
@@ -43,13 +44,6 @@ struct Arguments {
     cells: usize,
 }
 
-// What a call answers: the reply's number, and the rates or the lent result.
-#[derive(Drop)]
-struct Answer {
-    reply: u64,
-    cells: Vec<f64>,
-}
-
 impl Arguments {
     fn read(alloc: Global, words: &mut Words<'_>) -> Result<Self, LineError> {
         Ok(Arguments {
@@ -65,7 +59,12 @@ impl Arguments {
         PREFILLED.iter().copied().take(self.cells).collect(alloc)
     }
 
-    fn called(&self, alloc: Global, entry: Entry) -> Result<Answer, AllocError> {
+    // The reply, and the rates or the lent result.
+    fn called(
+        &self,
+        alloc: Global,
+        entry: Entry,
+    ) -> Result<(Result<(), Refusal>, Vec<f64>), AllocError> {
         let made = self.parameters.made();
         let kernel = made.unwrap_or(linear_pk::none());
         let mut cells = self.prefilled(alloc)?;
@@ -84,10 +83,7 @@ impl Arguments {
                 kernel.concentrations(self.amounts.as_slice(), cells.as_mut_slice())
             }
         };
-        Ok(Answer {
-            reply: refusal::number(reply),
-            cells,
-        })
+        Ok((reply, cells))
     }
 }
 
@@ -104,6 +100,7 @@ fn rates_of(alloc: Global, kernel: LinearPk) -> Result<Vec<f64>, AllocError> {
     Ok(rates)
 }
 
+// By number: a line has the number of its entry.
 fn entry_of(number: u64) -> Result<Entry, LineError> {
     match number {
         1 => Ok(Entry::New),
@@ -113,27 +110,15 @@ fn entry_of(number: u64) -> Result<Entry, LineError> {
     }
 }
 
-// Whether each cell has the pattern in its place.
-fn all_same(cells: &[f64], patterns: &[u64]) -> bool {
-    cells.len() == patterns.len()
-        && cells
-            .iter()
-            .zip(patterns)
-            .all(|(x, pattern)| same(*x, *pattern))
-}
-
 pub fn replay(alloc: Global, line: &str) -> Result<Called<Entry>, LineError> {
     let numbers = numbers(alloc, line)?;
     let mut words = Words::new(numbers.as_slice());
     let entry = entry_of(words.word()?)?;
     let arguments = Arguments::read(alloc, &mut words)?;
-    let reply = words.word()?;
-    let cells = words.list(CELLS)?;
+    let stored = words.word()?;
+    let patterns = words.list(CELLS)?;
     words.end()?;
-    let answer = arguments.called(alloc, entry)?;
-    Ok(Called {
-        entry,
-        reply: answer.reply,
-        same: answer.reply == reply && all_same(answer.cells.as_slice(), cells),
-    })
+    let (reply, cells) = arguments.called(alloc, entry)?;
+    let same = all_same(cells.as_slice(), patterns);
+    Ok(Called::new(entry, reply, stored, same))
 }

@@ -1,4 +1,5 @@
 // The numbers of stored answers: lower-case hexadecimal, no leading zeros; and whether a double has the pattern of one.
+// By hand: `from_str_radix` and `to_digit` take upper case too, and the first also a sign and zeros in front.
 #![tactic(auto)]
 
 ghost use Rattle.std.specs.Prelude.{◌≡◌, ℕ, ◌<◌, ◌↔◌, IfSome, IsTrue, length, slice_index, slice_index_or};
@@ -28,6 +29,7 @@ fn spelled(word: &str) -> bool
 }
 
 // The number that a word spells, where it fits 64 bits.
+#[tactic(auto, unfolding(crate::specs::Text::number_of, crate::specs::Text::number_from))]
 pub fn number(word: &str) -> Option<u64>
     ensures { result ≡ number_of word.now }
 {
@@ -43,6 +45,8 @@ pub fn number(word: &str) -> Option<u64>
 }
 
 // Whether x has this pattern; all NaNs count as one.
+// By bits: `==` would take -0.0 for 0.0, and no NaN for another.
+#[tactic(auto, unfolding(crate::specs::Doubles::same_bits))]
 pub fn same(x: f64, bits: u64) -> bool
     ensures { result ≡ same_bits x bits }
 {

@@ -26,24 +26,17 @@ impl fmt::Display for Entry {
     }
 }
 
-impl Entry {
-    fn printed(self, sheet: &[u8], out: &mut [u8]) -> PrintReply {
-        match self {
-            Entry::RunSheet => rig_run_printout::run_sheet(sheet, out),
-            Entry::SteadySheet => rig_steady_sheet::steady_sheet(sheet, out),
-        }
-    }
-}
-
 // Whether a call with one cell too few, `length`, refuses and leaves all cells: with 4 in place of an answer.
-fn is_refused(
+fn is_refused<F: Fn(&[u8], &mut [u8]) -> PrintReply>(
     alloc: Global,
-    entry: Entry,
+    print: &F,
     sheet: &Sheet<'_>,
     length: usize,
-) -> Result<bool, AllocError> {
+) -> Result<bool, AllocError>
+    requires { F.IsAlwaysCallable print.now }
+{
     let mut cells = vec![in alloc; CELL; length]?;
-    let printed = entry.printed(sheet.bytes.as_slice(), cells.as_mut_slice());
+    let printed = print(sheet.bytes.as_slice(), cells.as_mut_slice());
     let number = match sheet.number {
         0 => refusal::number(Err(Refusal::ShortSlice)),
         number => number,
@@ -60,31 +53,44 @@ fn written(byte: u8) -> u8 {
     if byte == b'/' { b'\n' } else { byte }
 }
 
-// Calls the entry with one cell too few, then with as many as the text has.
-fn called(alloc: Global, entry: Entry, sheet: &Sheet<'_>) -> Result<Called<Entry>, LineError> {
+// Calls what prints the sheet with one cell too few, then with as many as the text has.
+fn called<F: Fn(&[u8], &mut [u8]) -> PrintReply + Drop>(
+    alloc: Global,
+    entry: Entry,
+    print: F,
+    sheet: &Sheet<'_>,
+) -> Result<Called<Entry>, LineError>
+    requires { F.IsAlwaysCallable print }
+{
     let text = sheet.printout.as_bytes();
     if text.is_empty() || text.len() > TEXT {
         return Err(LineError::Malformed);
     }
-    let refused = is_refused(alloc, entry, sheet, text.len() - 1)?;
+    let refused = is_refused(alloc, &print, sheet, text.len() - 1)?;
     let mut cells = vec![in alloc; CELL; text.len()]?;
-    let printed = entry.printed(sheet.bytes.as_slice(), cells.as_mut_slice());
-    let reply = refusal::number(printed.reply);
+    let printed = print(sheet.bytes.as_slice(), cells.as_mut_slice());
     let is_text = cells
         .iter()
         .copied()
         .eq(text.iter().map(|byte| written(*byte)));
-    Ok(Called {
-        entry,
-        reply,
-        same: refused && reply == sheet.number && printed.length == text.len() && is_text,
-    })
+    let same = refused && printed.length == text.len() && is_text;
+    Ok(Called::new(entry, printed.reply, sheet.number, same))
 }
 
 // A line that starts with an s is one for `steady_sheet`.
 pub fn replay(alloc: Global, line: &str) -> Result<Called<Entry>, LineError> {
     match line.strip_prefix('s') {
-        Some(rest) => called(alloc, Entry::SteadySheet, &Sheet::read(alloc, rest)?),
-        None => called(alloc, Entry::RunSheet, &Sheet::read(alloc, line)?),
+        Some(rest) => called(
+            alloc,
+            Entry::SteadySheet,
+            rig_steady_sheet::steady_sheet,
+            &Sheet::read(alloc, rest)?,
+        ),
+        None => called(
+            alloc,
+            Entry::RunSheet,
+            rig_run_printout::run_sheet,
+            &Sheet::read(alloc, line)?,
+        ),
     }
 }

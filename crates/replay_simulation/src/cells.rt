@@ -47,11 +47,19 @@ impl Expected {
         }
     }
 
+    // By number: a line stores a side so.
     pub fn push(&mut self, time: u64, side: u64, amounts: &[u64]) -> Result<(), AllocError> {
         self.times.push(time)?;
         self.sides.push(side)?;
         self.values.extend_from_slice(amounts)?;
         Ok(())
+    }
+
+    // With rows of n zeros behind, up to so many rows.
+    pub fn fill_with_zeros(&mut self, rows: usize, n: usize) -> Result<(), AllocError> {
+        self.times.resize(rows, 0)?;
+        self.sides.resize(rows, 0)?;
+        self.values.resize(rows.saturating_mul(n), 0)
     }
 
     // Whether the slices hold these rows, and behind them what they held before.

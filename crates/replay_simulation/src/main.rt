@@ -8,5 +8,5 @@ mod replay;
 use std::io;
 
 fn main(rt: HostRuntime) -> io::Result<()> {
-    replay_answers::replay_lines(&rt, |line| replay::replay(rt.alloc(), line))
+    replay_answers::replay_main(&rt, replay::replay)
 }

@@ -7,7 +7,7 @@ use protocol::Window;
 use refusal::Refusal;
 use replay_answers::{Called, LineError, Parameters, Words, doubles, numbers};
 use replay_numbers::same;
-use simulation_report::{Report, RunReply};
+use simulation_report::{Reached, Report, RunError};
 use std::alloc::{AllocError, Global};
 use std::fmt;
 
@@ -66,9 +66,9 @@ impl<'a> Run<'a> {
         4 * self.events() + self.samples.len() + 2
     }
 
-    fn simulated(&self, lent: &mut Lent) -> RunReply {
+    fn simulated(&self, lent: &mut Lent) -> Result<Reached, RunError> {
         if !events_layout::events_fit(self.events) {
-            return RunReply::Refused(Refusal::Layout);
+            return Err(RunError::Refused(Refusal::Layout));
         }
         let list = events_layout::events_of(self.events);
         simulation::simulate(
@@ -84,9 +84,18 @@ impl<'a> Run<'a> {
     }
 }
 
+// The refusal that ended a run, if one did.
+fn outcome_of(reply: Result<Reached, RunError>) -> Result<(), Refusal> {
+    match reply {
+        Ok(_) => Ok(()),
+        Err(RunError::Refused(refusal) | RunError::Stopped { refusal, .. }) => Err(refusal),
+    }
+}
+
 // The answer that a line stores; a row is its words.
 #[derive(Clone, Copy)]
 struct Stored<'a> {
+    // By number: a line stores an outcome so.
     number: u64,
     time: u64,
     count: usize,
@@ -111,9 +120,9 @@ impl<'a> Stored<'a> {
         })
     }
 
+    // Whether the report is the stored one, but for the outcome's number.
     fn is_report(&self, report: Report) -> bool {
-        report.number == self.number
-            && same(report.time, self.time)
+        same(report.time, self.time)
             && report.rows == self.count
             && report.advances == self.advances
     }
@@ -128,10 +137,7 @@ impl<'a> Stored<'a> {
                 expected.push(*time, *side, amounts)?;
             }
         }
-        let zeros = vec![in alloc; 0; n]?;
-        for _ in self.count..reckoned {
-            expected.push(0, 0, zeros.as_slice())?;
-        }
+        expected.fill_with_zeros(reckoned, n)?;
         Ok(expected)
     }
 }
@@ -147,15 +153,10 @@ pub fn replay(alloc: Global, line: &str) -> Result<Called<Simulate>, LineError> 
     let reply = run.simulated(&mut lent);
     // A run that a test ahead of it refused leaves every cell.
     let expected = match reply {
-        RunReply::Refused(_) => Expected::new(alloc),
-        RunReply::Stopped { .. } | RunReply::Reached { .. } => {
-            stored.expected(alloc, n, run.reckoned())?
-        }
+        Err(RunError::Refused(_)) => Expected::new(alloc),
+        Err(RunError::Stopped { .. }) | Ok(_) => stored.expected(alloc, n, run.reckoned())?,
     };
     let report = simulation_report::report_of(reply);
-    Ok(Called {
-        entry: Simulate,
-        reply: report.number,
-        same: stored.is_report(report) && expected.is_in(&lent)?,
-    })
+    let same = stored.is_report(report) && expected.is_in(&lent)?;
+    Ok(Called::new(Simulate, outcome_of(reply), stored.number, same))
 }

@@ -1,45 +1,26 @@
 // Reads a sheet on standard input to its end, starts from the amounts that solve its cycle, runs one cycle more and writes the printout of it.
 #![tactic(auto)]
 
-ghost use Rattle.std.specs.Prelude.{◌+◌, ◌≡◌, true, length};
-ghost use Rattle.std.specs.Io.KnownBytes.{Appends};
-ghost use Rattle.limits.specs.Limits.{sheet_bytes};
-ghost use Rattle.rig_cycle_sheet.specs.CycleSheet.{cycle_printout_of_bytes, most_cycle_bytes};
+ghost use Rattle.rig_cycle_sheet.specs.CycleSheet.{cycle_printout_of_bytes};
 
-use limits::SHEET_BYTES;
 use rig_cycle_sheet::CYCLE_BYTES;
-use std::io::Write;
+use rig_streams::Program;
 
-// Room for a sheet and one byte more: a longer file is as unfit as this much of it.
-fn input() -> [u8; SHEET_BYTES + 1]
-    ensures { sheet_bytes + 1 ≡ length result }
-{
-    [0; SHEET_BYTES + 1]
-}
+struct RigCycle;
 
-// Room for any printout.
-fn output() -> [u8; CYCLE_BYTES]
-    ensures { most_cycle_bytes ≡ length result }
-{
-    [0; CYCLE_BYTES]
-}
+impl Program<CYCLE_BYTES> for RigCycle {
+    ghost text = { λ bytes. (cycle_printout_of_bytes bytes).text };
 
-// Runs the cycle and writes its printout; whether all of it was written.
-// Two lines over its own entry: a trait for the printers of the three programs would be longer than they are.
-fn run<W: Write>(sheet: &[u8], text: &mut [u8], out: &mut W) -> bool
-    ensures { result ≡ true → length text.old ≡ most_cycle_bytes →
-        Appends (W.contents out.old) (W.contents out.new) (cycle_printout_of_bytes sheet.now).text }
-{
-    let reply = rig_cycle_sheet::cycle_sheet(sheet, text);
-    out.write_all(&text[..reply.length]).is_ok()
+    fn name() -> &'static str {
+        "rig-cycle"
+    }
+
+    // By the trait: what a program prints is all that it has of its own.
+    fn print(sheet: &[u8], out: &mut [u8; CYCLE_BYTES]) -> usize {
+        rig_cycle_sheet::cycle_sheet(sheet, out).length
+    }
 }
 
 fn main(rt: HostRuntime) {
-    let mut bytes = input();
-    let n = rig_streams::read_full(&mut rt.stdin(), &mut bytes);
-    let mut text = output();
-    let written = run(&bytes[..n], &mut text, &mut rt.stdout());
-    if !written {
-        let _ = eprintln!(rt; "rig-cycle: standard output cannot be written");
-    }
+    rig_streams::run::<RigCycle, CYCLE_BYTES>(&rt)
 }

@@ -13,7 +13,7 @@ use Rattle.limits.specs.Limits.{most_cycle_events, most_events, most_samples}
 use Rattle.binary64.specs.Doubles.{nonnegative}
 use Rattle.binary64.specs.Lists.{all, amounts_pass}
 use Rattle.refusal.specs.Result.{Result, refused, done}
-use Rattle.refusal.specs.Numbers.{outcome_with}
+use Rattle.refusal.specs.Numbers.{Reply, result_of}
 use Rattle.refusal.specs.declared.Refusal.{Refusal}
 use Rattle.std.specs.Prelude.{Ok, Err, Result as Answer}
 use Rattle.std.specs.Result.{is_ok}
@@ -169,10 +169,10 @@ module _ (k : LinearPk) (w ss es : List ℕ) (h : sound k ≡ done k) (few : eve
           → next_with k w ss es ≡ got (record { tolerance = tolerance_of w; starts = s.amounts; ends = e; residuals = s.residuals })
       run_ends y = next_is (rw (p, run-list) at y)
 
--- ---- a result that stands for a value is one
-pub holds : {A B : Type 0} (f : A → B) {b : B} (x : Answer A Refusal) → outcome_with f x ≡ done b → is_ok x ≡ true
-holds f (Ok a) e = refl
-holds f (Err r) e = absurd (let z : ◌≡◌ {A = ℕ} 0 1 = cc in omega arith)
+-- ---- a reply beside a value that stands for one is no refusal
+pub holds : {A : Type 0} {b : A} (x : Reply) (a : A) → result_of x a ≡ done b → is_ok x ≡ true
+holds (Ok u) a e = refl
+holds (Err r) a e = absurd (let z : ◌≡◌ {A = ℕ} 0 1 = cc in omega arith)
 
 -- the slices that solve it have a cell for each state
 pub solves_sized : (k : LinearPk) (w ss es : List ℕ) → sound k ≡ done k → {amounts residual : List Float}

@@ -18,7 +18,8 @@ ghost use Rattle.rig_cycle_next.specs.NextPrintout.{cycle_printout};
 use linear_pk::LinearPk;
 use periodic_next::simulate_cycle;
 use printout::PrintReply;
-use printout_cycle::print_cycle;
+use printout_cycle::PrintedCycle;
+use protocol::EventList;
 use refusal::Refusal;
 use sheet::Part;
 use sheet_kernel::tolerance_of;
@@ -52,7 +53,8 @@ pub fn run_next(
     sheet_values::doubles(samples, 0, readings);
     let list = events_layout::events_of(Part(events));
     let span = sheet_values::window_of(window);
-    let folded = fold::normalize_periodic_cycle(kernel, span, list.as_slice(), readings).unwrap();
+    let mut folded = EventList::new();
+    fold::normalize_periodic_cycle(kernel, span, list.as_slice(), readings, &mut folded).unwrap();
     simulate_cycle(
         kernel,
         span,
@@ -87,9 +89,12 @@ pub fn next_solved(
     let from = run_next(
         kernel, window, samples, events, readings, amounts, residual, times, sides, values,
     );
-    let n = kernel.state_count();
-    let end = from + n;
-    let tolerance = tolerance_of(window);
-    let length = print_cycle(tolerance, n, amounts, &values[from..end], residual, out);
-    printout::reply_of(Ok(()), length)
+    let end = from + kernel.state_count();
+    let cycle = PrintedCycle {
+        tolerance: tolerance_of(window),
+        starts: amounts,
+        ends: &values[from..end],
+        residuals: residual,
+    };
+    cycle.print(out)
 }

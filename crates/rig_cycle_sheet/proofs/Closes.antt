@@ -8,7 +8,6 @@ use native.Mathlib.Nat.{suc_inj}
 use borrow.Author.Tests.{eq-eqb, leb-true}
 use lib.Dec.{T, leb}
 use lib.ListN.{length}
-use lib.Seq.{take_all}
 use lib.Ieee.{Float, nan, binary64, sub, le}
 use lib.Ieee.Scale.{finite}
 use Rattle.limits.specs.Limits.{most_cycle_events, most_samples}
@@ -87,18 +86,8 @@ module _ (k : LinearPk) (w ss es : List ℕ) (h : sound k ≡ done k) (few : eve
       let z = sized k w ss es h few s q in
       let e = end k w ss es h few s q in
       let b : length e ≡ state_count k = end-width k w ss es h few s q in
-      let l = text-length (tolerance_of w) (state_count k) s.amounts e s.residuals (omega (arith, z.amounts)) (omega arith)
-      {closed = true} (sym (rw (
-        take_all (state_count k) s.amounts (omega (arith, z.amounts)),
-        take_all (state_count k) e (omega arith),
-        take_all (state_count k) s.residuals (omega (arith, z.residuals)),
-      ) bodies_close)) in
-      let m = rw (
-        take_all (state_count k) s.amounts (omega (arith, z.amounts)),
-        take_all (state_count k) e (omega arith),
-        take_all (state_count k) s.residuals (omega (arith, z.residuals)),
-      ) at l in
-      omega (arith, m, few-states k)
+      let l = text-length (tolerance_of w) s.amounts e s.residuals (omega (arith, z.amounts, b)) {closed = true} (sym bodies_close) in
+      omega (arith, l, z.amounts, few-states k)
 
 -- ---- of the bytes of a file
 few-events : (bs : List ℕ) {s : Sheet} → read_sheet bs ≡ done s → event_count s.events ≤ most_cycle_events

@@ -3,41 +3,24 @@ use mathlib.Core.Path.{◌≡◌, refl, sym, ap, ◌∙◌}
 use mathlib.Core.List.{List, ◌++◌, append-nil}
 use Prim.Native.Nat.{ℕ, ◌≤◌}
 use native.Mathlib.Omega.{arith}
-use borrow.Author.Tests.{ne_eqb}
-use lib.Dec.{eqb}
 use lib.ListN.{length, drop}
 use lib.Seq.{drop-length}
 use lib.Ieee.{Float}
-use Rattle.refusal.specs.Numbers.{reply_number}
-use Rattle.printout.specs.Cells.{printed, printed_length}
 use Rattle.linear_pk.specs.declared.kernel.LinearPk.{LinearPk}
 use Rattle.cycle.specs.Closed.{Timed, stopped, got, SteadyState, SteadyReport, steady_report_of, answer_at_exit}
-use Rattle.printout.specs.Printouts.{number_or_short}
-use Rattle.printout.specs.Replies.{Prints}
-use Rattle.printout.specs.declared.PrintReply.{PrintReply}
-use Rattle.printout.proofs.Replies.{prints}
-use Rattle.printout_steady.specs.SteadyPrintout.{steady_text, steady_result}
+use Rattle.printout.specs.Replies.{refused_at}
 use Rattle.rig_steady_cycle.specs.SheetCycle.{steady_with}
 use Rattle.periodic_acceptance.specs.Replies.{SteadyAnswer}
 use Rattle.rig_steady_cycle.proofs.Kept.{Kept}
 use Rattle.printout_cycle.specs.CyclePrintout.{NextCycle, cycle_text}
 use Rattle.rig_cycle_next.specs.NextRun.{next_with}
 use Rattle.rig_cycle_next.specs.Solves.{Solves}
-use Rattle.rig_cycle_next.specs.NextPrintout.{cycle_printout, timed_number}
-use Rattle.rig_cycle_next.proofs.Printing.{text_some}
+use Rattle.rig_cycle_next.specs.NextPrintout.{cycle_printout}
 
 -- ---- a refusal
-pub refused_prints : {o : Timed NextCycle} {c : ℕ} {t : Float} → o ≡ stopped c t → (c ≡ 0 → ⊥) → (m : Float) (starts residuals : List Float)
-    → {old new : List ℕ} {reply : PrintReply} {length' : ℕ}
-    → reply_number reply.reply ≡ number_or_short c (eqb length' 0) → reply.length ≡ length'
-    → length' ≡ printed_length (steady_text (steady_result c t 0 m starts residuals)) old
-    → new ≡ printed (steady_text (steady_result c t 0 m starts residuals)) old → Prints (cycle_printout o) old reply new
-unfolding cycle_text steady_text
-refused_prints {o} {c} {t} e h m starts residuals {old} {new} {reply} {length'} a b written cells =
-    prints text (text_some o) (a ∙ ap (λ (x : Timed NextCycle). number_or_short (timed_number x) (eqb length' 0)) (sym e)) b written cells
-  where
-    text : steady_text (steady_result c t 0 m starts residuals) ≡ cycle_text o
-    text = rw (e, ne_eqb c 0 h)
+pub refused-printout : {o : Timed NextCycle} {c : ℕ} {t : Float} → o ≡ stopped c t → refused_at c t ≡ cycle_printout o
+unfolding cycle_text
+refused-printout e = sym (ap cycle_printout e)
 
 pub next-stops : (k : LinearPk) (w ss es : List ℕ) {c : ℕ} {t : Float} → steady_with k w ss es ≡ stopped c t → next_with k w ss es ≡ stopped c t
 unfolding next_with

@@ -15,13 +15,12 @@ ghost use Rattle.printout.specs.Cells.{printed, printed_length};
 ghost use Rattle.printout.specs.Printouts.{number_into};
 ghost use Rattle.rig_cycle_sheet.specs.CycleSheet.{cycle_printout_of_bytes};
 
-use limits::STATES;
+use limits::{SAMPLES, STATES};
 use linear_pk::LinearPk;
 use periodic_inputs::{side_cells, time_cells, value_cells};
-use printout::{PrintReply, print_refusal};
-use printout_steady::print_steady;
+use printout::{PrintReply, print_refusal, print_refused};
 use rig_cycle_next::next_solved;
-use rig_run_sheet::sample_cells;
+use rig_run_sheet::cells;
 use rig_steady_cycle::solve_bodies;
 
 // The most bytes of a printout: a line of the most states, and the longer verdict.
@@ -49,11 +48,7 @@ pub fn next_cells(
 {
     let solved = solve_bodies(kernel, window, samples, events, readings, amounts, residual);
     match solved {
-        Err(stop) => {
-            let number = refusal::number(Err(stop.refusal));
-            let length = print_steady(number, stop.time, 0, 0.0, amounts, residual, out);
-            printout::reply_of(Err(stop.refusal), length)
-        }
+        Err(stop) => print_refused(stop.refusal, stop.time, out),
         Ok(_) => next_solved(
             kernel, window, samples, events, readings, amounts, residual, times, sides, values, out,
         ),
@@ -74,7 +69,7 @@ fn next_bodies(
 {
     let n = kernel.state_count();
     let count = samples.len() / 8;
-    let mut readings = sample_cells();
+    let mut readings: [f64; SAMPLES] = cells();
     let mut amounts = [0.0f64; STATES];
     let mut residual = [0.0f64; STATES];
     let mut times = time_cells();
@@ -96,6 +91,7 @@ fn next_bodies(
 }
 
 // The printout of a sheet's next cycle, from the front of out. Where it has no room there nothing is written, and an answer is 4.
+// As `steady_sheet` but for the entry: one function over both would ask for a closure with this contract from each.
 pub fn cycle_sheet(bytes: &[u8], out: &mut [u8]) -> PrintReply
     ensures reply_value { reply_number result.reply ≡ number_into out.old (cycle_printout_of_bytes bytes.now) }
     ensures length_value { result.length ≡ printed_length (cycle_printout_of_bytes bytes.now).text out.old }

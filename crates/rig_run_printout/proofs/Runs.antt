@@ -1,5 +1,5 @@
 -- The run of a sheet: its rows lie within the reckoned ones, no refusal has the number 0, and the printout over the slices is that of the outcome.
-use mathlib.Core.Path.{◌≡◌, refl, sym, ap, ◌∙◌, subst}
+use mathlib.Core.Path.{◌≡◌, refl, sym, ap, ap₂, ◌∙◌, subst}
 use mathlib.Core.List.{List, [], ◌++◌}
 use mathlib.Core.Option.{Option, some, none}
 use Prim.Native.Nat.{ℕ, ◌+◌, ◌*◌, ◌≤◌, zero-le}
@@ -24,17 +24,16 @@ use Rattle.protocol.proofs.EntryLaws.{Passes, n_each, ahead_none, simulate_runs,
 use Rattle.preparation.specs.Preparation.{own_number}
 use Rattle.preparation.proofs.Positive.{Positive, ahead-positive}
 use Rattle.simulation.specs.KernelRun.{propagator_of, refusal_of}
-use Rattle.simulation_report.specs.Replies.{reported}
-use Rattle.simulation_report.specs.declared.Report.{Report}
 use Rattle.simulation.proofs.KernelRuns.{kernel-run}
 use Rattle.simulation.proofs.Whole.{own_none}
 use Rattle.events_layout.specs.Layout.{events_of}
 use Rattle.sheet_kernel.specs.Values.{double_of, sheet_window}
 use Rattle.printout.specs.Printout.{rows_text, run_text, head_line, ordered_line}
+use Rattle.printout.specs.Replies.{refused_at, answer}
 use Rattle.printout.proofs.Replies.{refusal-text, refusal_some}
 use Rattle.rig_run_sheet.specs.SheetRun.{doubles_of, room_of, run_with, reckoned_of}
 use Rattle.rig_run_sheet.proofs.Words.{all_made, times-made, start-made, end-made}
-use Rattle.rig_run_printout.specs.RunPrintout.{outcome_text}
+use Rattle.rig_run_printout.specs.RunPrintout.{outcome_text, run_printout}
 use Rattle.rig_run_printout.proofs.Lines.{row_lines_lem}
 
 -- a sheet's list that passes has what is claimed of plain runs
@@ -122,15 +121,33 @@ module _ (k : LinearPk) (w a ss es : List ℕ) where
           (refused_kept c (subst Positive e (ahead-positive k n (sheet_window w) (doubles_of ss) (events_of es) (doubles_of a) (room_of R n))))
 
   -- a report that tells it
-  module _ {report : Report} (e : reported report ≡ report_of (run_with k w a ss es)) where
+  module _ {report : RunReport} (e : report ≡ report_of (run_with k w a ss es)) where
+    abbrev o : Result Outcome
+    o = run_with k w a ss es
+
     pub rows-within : report.rows ≤ R
     rows-within = subst (λ (x : RunReport). x.rows ≤ R) (sym e) run_kept.within
 
-    pub run-text : (times : List Float) (sides : List ℕ) (values : List Float) {count : ℕ} {sum sum' : Float} {times' : List Float}
-        {sides' : List ℕ} {values' : List Float} → count ≡ n → sum' ≡ sum
-        → times' ≡ times_at_exit R (run_with k w a ss es) times → sides' ≡ sides_at_exit R (run_with k w a ss es) sides
-        → values' ≡ values_at_exit R n (run_with k w a ss es) values
-        → run_text report.number report.time report.rows count sum' times' sides' values' ≡ outcome_text sum (run_with k w a ss es)
-    run-text times sides values {count} {sum} {sum'} {times'} {sides'} {values'} c s t d v =
-        rw (c, s, t, d, v) (ap (λ (x : RunReport). run_text x.number x.time x.rows n sum (times_at_exit R (run_with k w a ss es) times)
-        (sides_at_exit R (run_with k w a ss es) sides) (values_at_exit R n (run_with k w a ss es) values)) e ∙ run_kept.same sum times sides values)
+    run-text : (sum : Float) (times : List Float) (sides : List ℕ) (values : List Float)
+        → run_text report.number report.time report.rows n sum (times_at_exit R o times) (sides_at_exit R o sides) (values_at_exit R n o values)
+        ≡ outcome_text sum o
+    run-text sum times sides values =
+        ap (λ (x : RunReport). run_text x.number x.time x.rows n sum (times_at_exit R o times) (sides_at_exit R o sides) (values_at_exit R n o values)) e
+        ∙ run_kept.same sum times sides values
+
+    told : {c : ℕ} {text : List ℕ} (sum : Float) → c ≡ report.number → text ≡ outcome_text sum o → record { number = c; text = text } ≡ run_printout sum o
+    told sum h t = ap₂ (λ (c : ℕ) (text : List ℕ). record { number = c; text = text }) (h ∙ ap (λ (x : RunReport). x.number) e) t
+
+    pub refused-printout : (sum : Float) → 1 ≤ report.number → refused_at report.number report.time ≡ run_printout sum o
+    refused-printout sum h =
+        told sum refl (sym (refusal-text report.number report.rows n report.time sum (times_at_exit R o []) (sides_at_exit R o []) (values_at_exit R n o []) h)
+        ∙ run-text sum [] [] [])
+
+    pub reached-printout : (times : List Float) (sides : List ℕ) (values : List Float) {count : ℕ} {sum sum' : Float} {times' : List Float}
+        {sides' : List ℕ} {values' : List Float} → 0 ≡ report.number → count ≡ n → sum' ≡ sum
+        → times' ≡ times_at_exit R o times → sides' ≡ sides_at_exit R o sides → values' ≡ values_at_exit R n o values
+        → answer (rows_text report.rows count sum' times' sides' values') ≡ run_printout sum o
+    unfolding run_text
+    reached-printout times sides values {count} {sum} h c s t d v =
+        rw (c, s, t, d, v) (told sum h (ap (λ (j : ℕ). run_text j report.time report.rows n sum (times_at_exit R o times) (sides_at_exit R o sides)
+        (values_at_exit R n o values)) h ∙ run-text sum times sides values))

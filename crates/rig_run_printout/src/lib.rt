@@ -5,7 +5,6 @@ ghost use Rattle.std.specs.Prelude.{◌≡◌, cond, ◌*◌, ◌/◌, leb, leng
 ghost use Rattle.limits.specs.Limits.{read_amounts};
 ghost use Rattle.refusal.specs.Numbers.{reply_number};
 ghost use Rattle.linear_pk.specs.LinearPk.{state_count};
-ghost use Rattle.simulation_report.specs.Replies.{run_reply};
 ghost use Rattle.events_layout.specs.Layout.{events_of};
 ghost use Rattle.sheet.specs.Sheet.{words_of};
 ghost use Rattle.sheet.specs.Readable.{Readable};
@@ -17,27 +16,17 @@ ghost use Rattle.printout.specs.Cells.{printed, printed_length};
 ghost use Rattle.printout.specs.Printouts.{number_into};
 ghost use Rattle.rig_run_printout.specs.Rig.{printout_of_bytes};
 
-use limits::{EVENT_BYTES, READ_AMOUNTS, SHEET_ROWS, STATES};
+use limits::{EVENT_BYTES, READ_AMOUNTS, SAMPLES, SHEET_ROWS, SHEET_VALUES, STATES};
 use linear_pk::LinearPk;
-use printout::{PrintReply, print_refusal, reply_of};
-use refusal::Refusal;
-use rig_run_sheet::{known, sample_cells, side_cells, simulate_bodies, time_cells, value_cells};
+use printout::{PrintReply, print_refusal, print_refused, print_run};
+use printout_rows::PrintedRows;
+use rig_run_sheet::{cells, known, side_cells, simulate_bodies};
+use sheet::Part;
 use sheet_events::ordered;
-use simulation_report::RunReply;
+use simulation_report::RunError;
 
 // The most bytes of a printout: "rows", three digits and "ordered", and the most rows, each with the longer side.
 pub const RUN_BYTES: usize = 34 + SHEET_ROWS * (22 + 17 * STATES);
-
-// Whether a run reached its end, or its refusal.
-fn answer_of(run: RunReply) -> Result<(), Refusal>
-    ensures { reply_number result ≡ (run_reply run).number }
-{
-    match run {
-        RunReply::Refused(refusal) => Err(refusal),
-        RunReply::Stopped { refusal, .. } => Err(refusal),
-        RunReply::Reached { .. } => Ok(()),
-    }
-}
 
 // Runs a kernel and the other bodies in lent cells, and prints the run.
 fn run_cells(
@@ -66,21 +55,21 @@ fn run_cells(
     let run = simulate_bodies(
         kernel, window, amounts, samples, events, initial, readings, times, sides, values,
     );
-    let report = simulation_report::report_of(run);
-    let n = kernel.state_count();
-    let sum = ordered(events);
-    let length = printout::print_run(
-        report.number,
-        report.time,
-        report.rows,
-        n,
-        sum,
-        times,
-        sides,
-        values,
-        out,
-    );
-    reply_of(answer_of(run), length)
+    match run {
+        Err(RunError::Refused(refusal)) => print_refusal(refusal, out),
+        Err(RunError::Stopped { refusal, time, .. }) => print_refused(refusal, time, out),
+        Ok(reached) => {
+            let list = events_layout::events_of(Part(events));
+            let rows = PrintedRows {
+                n: kernel.state_count(),
+                rows: reached.rows,
+                times,
+                sides,
+                values,
+            };
+            print_run(&rows, ordered(list.as_slice()), out)
+        }
+    }
 }
 
 // The same in cells of its own, for the most that a sheet holds.
@@ -100,12 +89,12 @@ pub fn run_bodies(
     let first = known(amounts.len() / 8);
     let count = samples.len() / 8;
     let rows = 4 * (events.len() / EVENT_BYTES) + count + 2;
-    let cells = rows * kernel.state_count();
+    let held = rows * kernel.state_count();
     let mut initial = [0.0f64; READ_AMOUNTS];
-    let mut readings = sample_cells();
-    let mut times = time_cells();
+    let mut readings: [f64; SAMPLES] = cells();
+    let mut times: [f64; SHEET_ROWS] = cells();
     let mut sides = side_cells();
-    let mut values = value_cells();
+    let mut values: [f64; SHEET_VALUES] = cells();
     run_cells(
         kernel,
         window,
@@ -116,7 +105,7 @@ pub fn run_bodies(
         &mut readings[..count],
         &mut times[..rows],
         &mut sides[..rows],
-        &mut values[..cells],
+        &mut values[..held],
         out,
     )
 }

@@ -29,7 +29,7 @@ use Rattle.protocol.proofs.EntryLaws.{simulate-refuses}
 use Rattle.preparation.specs.Preparation.{own_number}
 use Rattle.simulation.specs.KernelRun.{propagator_of}
 use Rattle.simulation.specs.Entries.{room, simulate_entry, run_reply}
-use Rattle.simulation_report.specs.declared.RunReply.{RunReply}
+use Rattle.simulation_report.specs.Replies.{RunReply}
 use Rattle.events_layout.specs.Layout.{event_count, events_of}
 use Rattle.events_layout.proofs.Laws.{all_held}
 use Rattle.sheet_kernel.specs.Values.{double_of, doubles_from, sheet_window}

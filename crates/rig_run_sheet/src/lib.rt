@@ -2,41 +2,29 @@
 #![tactic(auto)]
 
 ghost use Rattle.std.specs.Prelude.{◌≡◌, cond, leb, length, ◌*◌, ◌/◌, ◌≤◌};
-ghost use Rattle.limits.specs.Limits.{most_cycle_events, most_samples, event_size, sheet_rows, sheet_values, read_amounts};
+ghost use Rattle.limits.specs.Limits.{most_cycle_events, event_size, sheet_rows, read_amounts};
 ghost use Rattle.linear_pk.specs.LinearPk.{state_count};
 ghost use Rattle.protocol.specs.Entry.{report_of, times_at_exit, sides_at_exit, values_at_exit};
 ghost use Rattle.simulation_report.specs.Replies.{run_reply};
 ghost use Rattle.sheet.specs.Sheet.{words_of};
 ghost use Rattle.rig_run_sheet.specs.SheetRun.{run_with, reckoned_of};
 
-use limits::{READ_AMOUNTS, SAMPLES, SHEET_ROWS, SHEET_VALUES};
+use limits::{READ_AMOUNTS, SHEET_ROWS};
 use linear_pk::LinearPk;
 use sheet::Part;
-use simulation_report::RunReply;
+use simulation_report::{Reached, RunError};
 
-// Cells for the most samples, the most rows, and the amounts of those rows. What they hold is of no matter.
-pub fn sample_cells() -> [f64; SAMPLES]
-    ensures { most_samples ≡ length result }
+// Cells for numbers, and for the sides of the most rows. What they hold is of no matter: a contract of their length alone keeps it out of proofs.
+pub fn cells<const N: usize>() -> [f64; N]
+    ensures { N ≡ length result }
 {
-    [0.0; SAMPLES]
-}
-
-pub fn time_cells() -> [f64; SHEET_ROWS]
-    ensures { sheet_rows ≡ length result }
-{
-    [0.0; SHEET_ROWS]
+    [0.0; N]
 }
 
 pub fn side_cells() -> [u8; SHEET_ROWS]
     ensures { sheet_rows ≡ length result }
 {
     [0; SHEET_ROWS]
-}
-
-pub fn value_cells() -> [f64; SHEET_VALUES]
-    ensures { sheet_values ≡ length result }
-{
-    [0.0; SHEET_VALUES]
 }
 
 // How many amounts are read.
@@ -58,7 +46,7 @@ pub fn simulate_bodies(
     times: &mut [f64],
     sides: &mut [u8],
     values: &mut [f64],
-) -> RunReply
+) -> Result<Reached, RunError>
     requires { (72 ≤ length window.now) × (length events.now / 8 / event_size ≤ most_cycle_events)
         × (length initial.old ≡ cond (leb (length amounts.now / 8) read_amounts) (length amounts.now / 8) read_amounts)
         × (length readings.old ≡ length samples.now / 8)

@@ -12,12 +12,12 @@ ghost use Rattle.periodic_acceptance.specs.Replies.{SteadyAnswer};
 ghost use Rattle.printout.specs.Replies.{Prints};
 ghost use Rattle.printout_steady.specs.SteadyReplies.{steady_printout};
 
-use limits::STATES;
+use limits::{SAMPLES, STATES};
 use linear_pk::LinearPk;
 use periodic_acceptance::Stop;
 use printout::PrintReply;
 use printout_steady::print_reply;
-use rig_run_sheet::sample_cells;
+use rig_run_sheet::cells;
 use sheet::Part;
 use sheet_kernel::tolerance_of;
 
@@ -88,7 +88,7 @@ pub fn steady_bodies(
 {
     let n = kernel.state_count();
     let count = samples.len() / 8;
-    let mut readings = sample_cells();
+    let mut readings: [f64; SAMPLES] = cells();
     let mut amounts = [0.0f64; STATES];
     let mut residual = [0.0f64; STATES];
     steady_cells(

@@ -3,7 +3,6 @@ use mathlib.Core.Path.{◌≡◌, refl, sym, subst}
 use Prim.Native.Nat.{ℕ, ◌≤◌}
 use native.Mathlib.Omega.{arith}
 use lib.ListN.{length}
-use lib.Seq.{take_all}
 use lib.Ieee.{Float}
 use Rattle.limits.specs.Limits.{states}
 use Rattle.binary64.specs.Doubles.{plus_zero}
@@ -16,7 +15,7 @@ use Rattle.printout.specs.Printout.{refused_text}
 use Rattle.printout.proofs.Lengths.{places-most, refused-text-length}
 use Rattle.cycle.specs.Closed.{Timed, stopped, got, then, untimed, SteadyState}
 use Rattle.rig_run_sheet.proofs.Amounts.{few-states}
-use Rattle.printout_steady.specs.SteadyPrintout.{solved_text, steady_text, solved_length}
+use Rattle.printout_steady.specs.SteadyPrintout.{steady_text}
 use Rattle.printout_steady.proofs.Lines.{solved-length}
 use Rattle.printout_steady.specs.SteadyReplies.{steady_printout}
 use Rattle.rig_steady_cycle.specs.SheetCycle.{steady_with}
@@ -31,14 +30,7 @@ refusal-most c t = omega (arith, refused-text-length c t, places-most 19 c)
 kept_most : (n : ℕ) (o : Timed SteadyState) → n ≤ states → Kept n o → length (steady_text o) ≤ most_steady_bytes
 unfolding steady_text
 kept_most n (stopped c t) l h = refusal-most c t
-kept_most n (got s) l h =
-    let a : n ≤ length s.amounts = omega (arith, h.amounts) in
-    let b : n ≤ length s.residuals = omega (arith, h.residuals) in
-    let e : length (solved_text s) ≡ solved_length n = rw (
-      take_all n s.amounts (omega (arith, h.amounts)),
-      take_all n s.residuals (omega (arith, h.residuals)),
-    ) at (solved-length n s.maximum s.amounts s.residuals a b) in
-    omega arith
+kept_most n (got s) l h = omega (arith, h.amounts, solved-length s.maximum s.amounts s.residuals (omega (arith, h.amounts, h.residuals)))
 
 pub every_steady_printout_fits : EverySteadyPrintoutFits
 unfolding steady_of_bytes steady_sheet steady_text

@@ -16,6 +16,7 @@ use rig_steady_cycle::steady_bodies;
 pub const STEADY_BYTES: usize = 34 * STATES + 21;
 
 // The printout of a sheet's closed cycle, from the front of out. Where it has no room there nothing is written, and an answer is 4.
+// As `cycle_sheet` but for the entry: one function over both would ask for a closure with this contract from each.
 pub fn steady_sheet(bytes: &[u8], out: &mut [u8]) -> PrintReply
     ensures reply_value { reply_number result.reply ≡ number_into out.old (steady_printout_of_bytes bytes.now) }
     ensures length_value { result.length ≡ printed_length (steady_printout_of_bytes bytes.now).text out.old }

@@ -1,10 +1,23 @@
-// How the programs read, and what of a printout's cells is written.
+// A program over a sheet: how it reads, and what of its printout is written.
 #![tactic(auto)]
 
-ghost use Rattle.std.specs.Prelude.{◌≤◌, length, take};
-ghost use Rattle.std.specs.Io.KnownBytes.{Consumes};
+ghost use Rattle.std.specs.Prelude.{◌≡◌, ◌≤◌, ◌<◌, ℕ, List, true, length, take};
+ghost use Rattle.std.specs.Io.KnownBytes.{Consumes, Appends};
 
-use std::io::Read;
+use limits::SHEET_BYTES;
+use std::io::{Read, Write};
+
+// A program over a sheet, and room for its printout of any.
+pub trait Program<const ROOM: usize> {
+    ghost text: { List ℕ → List ℕ };
+
+    // The program's name.
+    fn name() -> &'static str;
+
+    // The printout of the sheet, from the front of out; how long it is.
+    fn print(sheet: &[u8], out: &mut [u8; ROOM]) -> usize
+        ensures { (result ≤ ROOM) × (take result out.new ≡ text sheet.now) };
+}
 
 // Reads until `bytes` is full, the input ends or a read fails; how many bytes stand at the start of `bytes`.
 pub fn read_full<R: Read>(input: &mut R, bytes: &mut [u8]) -> usize
@@ -12,6 +25,7 @@ pub fn read_full<R: Read>(input: &mut R, bytes: &mut [u8]) -> usize
     ensures taken { Consumes (R.remaining input.old) (R.remaining input.new) (take result bytes.new) }
 {
     let mut done = 0;
+    // By hand: after a failed read `read_exact` does not say how many bytes it had read.
     while done < bytes.len() {
         let Ok(n) = input.read(&mut bytes[done..]) else {
             return done;
@@ -22,4 +36,31 @@ pub fn read_full<R: Read>(input: &mut R, bytes: &mut [u8]) -> usize
         done += n;
     }
     done
+}
+
+// Writes the sheet's printout; whether all of it was written.
+pub fn write_printout<P: Program<ROOM>, const ROOM: usize, W: Write>(
+    sheet: &[u8],
+    text: &mut [u8; ROOM],
+    out: &mut W,
+) -> bool
+    ensures { result ≡ true → Appends (W.contents out.old) (W.contents out.new) (P.text sheet.now) }
+{
+    let length = P::print(sheet, text);
+    out.write_all(&text[..length]).is_ok()
+}
+
+// Reads a sheet on standard input to its end, and writes its printout on standard output.
+pub fn run<P: Program<ROOM>, const ROOM: usize>(rt: &HostRuntime)
+    requires { ROOM < 9223372036854775808 }
+{
+    // Room for a sheet and one byte more: a longer file is as unfit as this much of it.
+    let mut bytes = [0u8; SHEET_BYTES + 1];
+    let n = read_full(&mut rt.stdin(), &mut bytes);
+    let mut text = [0u8; ROOM];
+    let written = write_printout::<P, ROOM, _>(&bytes[..n], &mut text, &mut rt.stdout());
+    if !written {
+        let name = P::name();
+        let _ = eprintln!(rt; "{name}: standard output cannot be written");
+    }
 }

@@ -4,10 +4,12 @@ use Prim.Native.Nat.{ℕ, zero, suc, ◌+◌, ◌-◌, ◌*◌, ◌≤◌}
 use native.Mathlib.Nat.{zero-add, suc-add, suc-mul, le_of_suc-le-suc, not-suc-le-zero}
 use native.Mathlib.Omega.{arith}
 use mathlib.Core.Bool.{cond}
+use Rattle.std.specs.Prelude.{Ok, Err, Result as Reached}
 use mathlib.Core.List.{List, [], ◌∷◌, ◌++◌}
 use lib.ListN.{length, take, drop, replicate}
 use Rattle.refusal.specs.Result.{done}
-use Rattle.refusal.specs.Numbers.{reply_number}
+use Rattle.binary64.specs.Doubles.{plus_zero}
+use Rattle.refusal.specs.Numbers.{refusal_number}
 use Rattle.binary64.proofs.Sorted.{All}
 use Rattle.binary64.specs.Lists.{flat_map}
 use Rattle.protocol.specs.Schedule.{Step}
@@ -15,8 +17,9 @@ use Rattle.protocol.specs.Execute.{Propagator, Row, Outcome, go, stop, run, begi
 use Rattle.protocol.specs.Entry.{RunReport, report_of, side_code, front_then_zeros}
 use Rattle.protocol.specs.PlainRun.{rows_left}
 use Rattle.rows.specs.Written.{put, Cells, with_row_at, written}
-use Rattle.rows.specs.Standing.{Standing, is_refused, standing, behind_of, after, Ran}
+use Rattle.rows.specs.Standing.{Standing, standing, came_to, behind_of, after, Ran}
 use Rattle.rows.specs.declared.Progress.{Progress}
+use Rattle.rows.specs.declared.Stopped.{Stopped}
 
 -- ---- rows as lists over the cells
 put_empty : {A : Type 0} (k : ℕ) (rs : List A) → put k rs [] ≡ []
@@ -83,17 +86,22 @@ put_zeros {A} z k xs old h = ap (λ (j : ℕ). put 0 xs (replicate j z ++ drop k
         both k j = omega arith
 
 -- ---- the reply
-abbrev pub progress_reply : Progress → RunReport
-progress_reply p = record { number = reply_number p.reply; time = p.time; rows = cond (is_refused p.reply) 0 p.rows; advances = p.made }
+abbrev pub progress_reply : Reached Progress Stopped → RunReport
+progress_reply (Ok p) = record { number = 0; time = plus_zero; rows = p.rows; advances = p.made }
+progress_reply (Err z) = record { number = refusal_number z.refusal; time = z.time; rows = 0; advances = z.at.made }
 
 module _ {advance : Propagator} {n : ℕ} (start : Progress) (none_made : start.made ≡ 0) (no_rows : start.rows ≡ 0) {xs : List Step}
-    {old c : Cells} {p : Progress} (h : Ran advance n start xs old p c) where
-  pub ran-reply : progress_reply p ≡ report_of (done (run advance start.left (begin (take n start.amounts)) xs))
+    {old c : Cells} {r : Reached Progress Stopped} (h : Ran advance n start xs old r c) where
+  pub ran-reply : progress_reply r ≡ report_of (done (run advance start.left (begin (take n start.amounts)) xs))
   unfolding after
-  ran-reply = ap reply h.progress ∙ on (run advance start.left (begin (take n start.amounts)) xs)
+  ran-reply = as_told r ∙ ap reply h.progress ∙ on (run advance start.left (begin (take n start.amounts)) xs)
     where
       reply : Standing → RunReport
       reply s = record { number = s.number; time = s.time; rows = cond s.stopped 0 s.rows; advances = s.made }
+
+      as_told : (r : Reached Progress Stopped) → progress_reply r ≡ reply (came_to n r)
+      as_told (Ok p) = refl
+      as_told (Err z) = refl
 
       on : (o : Outcome) → reply (behind_of (standing n start) o) ≡ report_of (done o)
       on (go z) = rw (none_made, no_rows, zero-add (length z.advances), zero-add (length z.rows))

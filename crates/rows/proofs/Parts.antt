@@ -6,7 +6,7 @@ use native.Mathlib.Omega.{arith}
 use mathlib.Core.Bool.{Bool, true, false, cond}
 use mathlib.Core.List.{List, [], ◌∷◌, ◌++◌}
 use lib.Dec.{T, ltb}
-use lib.ListN.{length, take, length-append}
+use lib.ListN.{length, length-append}
 use lib.Ieee.{Float, binary64, sub}
 use lib.Ieee.Scale.{finite}
 use Rattle.binary64.specs.Doubles.{plus_zero, nonnegative}
@@ -19,9 +19,10 @@ use Rattle.protocol.specs.PlainRun.{rows_left}
 use Rattle.protocol.proofs.Frame.{out_behind, run-parts}
 use Rattle.protocol.proofs.RowCounts.{total-append, rows-most}
 use Rattle.rows.specs.Written.{Cells, written}
-use Rattle.rows.specs.Onward.{fresh}
-use Rattle.rows.specs.Standing.{Standing, is_refused, standing, behind_of, after, Ran, Fits}
+use Rattle.std.specs.Prelude.{Ok, Err, Result as Reached}
+use Rattle.rows.specs.Standing.{Standing, standing, behind_of, after, Ran, Fits}
 use Rattle.rows.specs.declared.Progress.{Progress}
+use Rattle.rows.specs.declared.Stopped.{Stopped}
 use Rattle.rows.proofs.Puts.{written-append, Same, written_same, room_less}
 
 no : true ≡ false → ⊥
@@ -152,54 +153,28 @@ fits_first {n} {start} xs ys {c} f = record {
   few = omega (arith, f.few, length-append xs ys);
 }
 
--- ---- what a start says of a stop does not matter
-pub fits_fresh : {n : ℕ} (start : Progress) {p : Progress} {xs : List Step} {c : Cells} → p ≡ fresh start → Fits n start xs c → Fits n p xs c
-fits_fresh start e f = rw e (record { states = f.states; room = f.room; few = f.few })
-
-pub fits_afresh : {n : ℕ} (start : Progress) {xs : List Step} {c : Cells} → Fits n (fresh start) xs c → Fits n start xs c
-fits_afresh start f = record { states = f.states; room = f.room; few = f.few }
-
-behind-fresh : (n : ℕ) (start : Progress) (o : Outcome) → behind_of (standing n (fresh start)) o ≡ behind_of (standing n start) o
-behind-fresh n start (go z) = refl
-behind-fresh n start (stop c t z) = refl
-
 -- ---- blocks in a row
 module _ {advance : Propagator} {n : ℕ} where
-  pub ran-same : {start p : Progress} {xs : List Step} {old c : Cells} → Ran advance n start xs old p c → Same old c
-  ran-same {start} {p} {xs} {old} {c} h = subst (λ (x : Cells). Same old x) (sym h.cells)
+  pub ran-same : {start : Progress} {r : Reached Progress Stopped} {xs : List Step} {old c : Cells} → Ran advance n start xs old r c → Same old c
+  ran-same {start} {r} {xs} {old} {c} h = subst (λ (x : Cells). Same old x) (sym h.cells)
       (written_same n start.rows (after advance (standing n start) xs).1 old)
 
-  pub ran-fresh :
-      (start : Progress) {p q : Progress} {xs : List Step} {old c : Cells} → p ≡ fresh start → Ran advance n p xs old q c → Ran advance n start xs old q c
-  unfolding after
-  ran-fresh start {xs = xs} e h =
-      let g = rw e at h in
-      record { progress = g.progress ∙ behind-fresh n start (run advance start.left (begin (take n start.amounts)) xs); cells = g.cells }
-
-  pub ran_afresh : {start p : Progress} {xs : List Step} {old c : Cells} → Ran advance n start xs old p c → Ran advance n (fresh start) xs old p c
-  unfolding after
-  ran_afresh {start} {p} {xs} h = record {
-    progress = h.progress
-        ∙ sym (behind-fresh n start (run advance start.left (begin (take n start.amounts)) xs));
-    cells = h.cells;
-  }
-
   pub ran-stops :
-      {start p : Progress} {xs : List Step} (ys : List Step) {old c : Cells} → Ran advance n start xs old p c → is_refused p.reply ≡ true
-      → Ran advance n start (xs ++ ys) old p c
-  ran-stops {start} {p} {xs} ys {old} {c} h s =
-      let w = after-stops advance (standing n start) xs ys (ap (λ (x : Standing). x.stopped) (sym h.progress) ∙ s) in
+      {start : Progress} {z : Stopped} {xs : List Step} (ys : List Step) {old c : Cells} → Ran advance n start xs old (Err z) c
+      → Ran advance n start (xs ++ ys) old (Err z) c
+  ran-stops {start} {z} {xs} ys {old} {c} h =
+      let w = after-stops advance (standing n start) xs ys (ap (λ (x : Standing). x.stopped) (sym h.progress)) in
       record {
         progress = h.progress ∙ ap (λ (v : Standing × List Row). v.0) (sym w);
         cells = h.cells ∙ ap (λ (v : Standing × List Row). written n start.rows v.1 old) (sym w);
       }
 
   pub ran_then :
-      {start p q : Progress} {xs ys : List Step} {old c d : Cells} → Ran advance n start xs old p c → is_refused p.reply ≡ false → Ran advance n p ys c q d
-      → Ran advance n start (xs ++ ys) old q d
-  ran_then {start} {p} {q} {xs} {ys} {old} {c} {d} h s g =
+      {start p : Progress} {r : Reached Progress Stopped} {xs ys : List Step} {old c d : Cells} → Ran advance n start xs old (Ok p) c
+      → Ran advance n p ys c r d → Ran advance n start (xs ++ ys) old r d
+  ran_then {start} {p} {r} {xs} {ys} {old} {c} {d} h g =
       let u = standing n start in
-      let w = after-goes advance u xs ys (ap (λ (x : Standing). x.stopped) (sym h.progress) ∙ s) in
+      let w = after-goes advance u xs ys (ap (λ (x : Standing). x.stopped) (sym h.progress)) in
       let j : p.rows ≡ start.rows + length (after advance u xs).1 = ap (λ (x : Standing). x.rows) h.progress ∙ (after-rows advance u xs).0 in
       record {
         progress = g.progress ∙ ap (λ (x : Standing). (after advance x ys).0) h.progress ∙ ap (λ (v : Standing × List Row). v.0) (sym w);
@@ -212,11 +187,11 @@ module _ {advance : Propagator} {n : ℕ} where
       }
 
   pub ran-nothing :
-      (start : Progress) (c : Cells) → Ran advance n start [] c (fresh start) c
+      (start : Progress) (c : Cells) → Ran advance n start [] c (Ok start) c
   unfolding after run
   ran-nothing start c = record { progress = rw (sub-zero start.left, add-zero start.made, add-zero start.rows); cells = refl }
 
-  pub fits_then : {start p : Progress} (xs ys : List Step) {old c : Cells} → Fits n start (xs ++ ys) old → Ran advance n start xs old p c → Fits n p ys c
+  pub fits_then : {start p : Progress} (xs ys : List Step) {old c : Cells} → Fits n start (xs ++ ys) old → Ran advance n start xs old (Ok p) c → Fits n p ys c
   fits_then {start} {p} xs ys {old} {c} f h =
       let u = standing n start in
       let j : p.rows ≡ start.rows + length (after advance u xs).1 = ap (λ (x : Standing). x.rows) h.progress ∙ (after-rows advance u xs).0 in

@@ -1,3 +1,5 @@
 pub mod Written
 pub mod Onward
+pub mod Sides
+pub mod Lent
 pub mod Standing

@@ -1,114 +1,100 @@
 // The blocks of a run: a row written into lent slices, the kernel's advance and the arrival at a boundary.
+// By fixed memory: n, the count of a kernel's states, stands beside arrays of the most states, since there is no heap.
 #![tactic(auto)]
 
-ghost use Rattle.std.specs.Prelude.{◌≡◌, [], ◌∷◌, ◌++◌, ℕ, ◌+◌, ◌*◌, ◌≤◌, ◌<◌, length, take, drop};
+ghost use Rattle.std.specs.Prelude.{◌≡◌, [], ◌∷◌, ◌++◌, ℕ, ◌+◌, ◌≤◌, ◌<◌, length, take, drop};
 ghost use Rattle.limits.specs.Limits.{states};
 ghost use Rattle.protocol.specs.Schedule.{arrive as arrives};
-ghost use Rattle.rows.specs.Written.{Cells, cells, put, RoomForRows};
-ghost use Rattle.rows.specs.Onward.{goes_on_with, fresh, stops_with, past_row, past_advance};
-ghost use Rattle.rows.specs.Standing.{is_refused, kernel_advance, Ran};
+ghost use Rattle.rows.specs.Written.{Cells, with_row_at, RoomForRows};
+ghost use Rattle.rows.specs.Lent.{cells_of, SameSlices, row_of};
+ghost use Rattle.protocol.specs.Entry.{side_code};
+ghost use Rattle.rows.specs.Onward.{with_amounts, stops_with, past_row, past_advance};
+ghost use Rattle.rows.specs.Standing.{kernel_advance, Ran};
+ghost use Rattle.rows.specs.Sides.{side_of};
 ghost use Rattle.refusal.specs.Numbers.{outcome_with};
 
 use limits::STATES;
 use linear_pk::LinearPk;
 use refusal::Refusal;
 
-// Where a run has come to: whether it was refused and at which time; the amounts, what is left of the budget of advances, the advances
-// made, and the rows written.
+// Where a run that goes on has come to: the amounts, what is left of the budget of advances, the advances made, and the rows written.
+// Cells for the most states, of which a kernel uses the first n: memory is fixed, and n is the kernel's.
 #[derive(Clone, Copy)]
 pub struct Progress {
-    pub reply: Result<(), Refusal>,
-    pub time: f64,
     pub amounts: [f64; STATES],
     pub left: u64,
     pub made: u64,
     pub rows: usize,
 }
 
+// A run that a refusal stopped: the time that is told, and where the run had come to.
+#[derive(Clone, Copy)]
+pub struct Stopped {
+    pub refusal: Refusal,
+    pub time: f64,
+    pub at: Progress,
+}
+
+// A row at a boundary, ahead of the doses or behind them. A reading is a row behind.
+#[derive(Clone, Copy)]
+pub enum Side {
+    Pre = 1,
+    Post = 2,
+}
+
+impl Side {
+    // By name: the byte of its kind, at the one place that writes it.
+    fn code(self) -> u8
+        ensures { result ≡ side_code (side_of self) }
+    {
+        self as u8
+    }
+}
+
 impl Progress {
-    // Whether a refusal stopped the run.
-    pub fn stopped(self) -> bool
-        ensures { result ≡ is_refused self.reply }
-    {
-        let reply = self.reply;
-        match reply {
-            Ok(()) => false,
-            Err(_) => true,
-        }
-    }
-
-    // On with other amounts.
     pub fn with_amounts(self, amounts: [f64; STATES]) -> Progress
-        ensures { result ≡ goes_on_with self amounts }
+        ensures { result ≡ with_amounts self amounts }
     {
-        Progress {
-            reply: Ok(()),
-            time: 0.0,
-            amounts: amounts,
-            left: self.left,
-            made: self.made,
-            rows: self.rows,
-        }
-    }
-
-    // On from here, whatever stopped before.
-    pub fn resumed(self) -> Progress
-        ensures { result ≡ fresh self }
-    {
-        let amounts = self.amounts;
-        self.with_amounts(amounts)
+        Progress { amounts, ..self }
     }
 
     // Stopped here by a refusal, told at a time.
-    pub fn stopped_by(self, refusal: Refusal, time: f64) -> Progress
+    pub fn stopped_by(self, refusal: Refusal, time: f64) -> Stopped
         ensures { result ≡ stops_with self refusal time }
     {
-        let amounts = self.amounts;
-        Progress {
-            reply: Err(refusal),
-            time: time,
-            amounts: amounts,
-            left: self.left,
-            made: self.made,
-            rows: self.rows,
+        Stopped {
+            refusal,
+            time,
+            at: self,
         }
     }
 
-    // On behind one more row, where their count can rise.
+    // Behind one more row, where their count can rise.
     fn past_row(self) -> Progress
         requires { self.rows < 18446744073709551615 }
         ensures { result ≡ past_row self }
     {
-        let amounts = self.amounts;
         Progress {
-            reply: Ok(()),
-            time: 0.0,
-            amounts: amounts,
-            left: self.left,
-            made: self.made,
             rows: self.rows + 1,
+            ..self
         }
     }
 
-    // On with one more advance made; a budget at 0 stays there.
+    // With one more advance made; a budget at 0 stays there.
     fn past_advance(self) -> Progress
         requires { self.made < 4294967296 }
         ensures { result ≡ past_advance self }
     {
-        let amounts = self.amounts;
-        let left = self.left;
         Progress {
-            reply: Ok(()),
-            time: 0.0,
-            amounts: amounts,
-            left: if left == 0 { 0 } else { left - 1 },
+            left: self.left.saturating_sub(1),
             made: self.made + 1,
-            rows: self.rows,
+            ..self
         }
     }
 }
 
 // The row writer: a row's amounts from the front of the part of the values that is lent to it; the cells behind them stay.
+// By hand: `copy_from_slice` asks for equal lengths.
 fn row_writer(amounts: &[f64], part: &mut [f64])
     requires { length amounts.now ≤ length part.old }
     ensures { part.new ≡ amounts.now ++ drop (length amounts.now) part.old }
@@ -116,47 +102,30 @@ fn row_writer(amounts: &[f64], part: &mut [f64])
     part[..amounts.len()].copy_from_slice(amounts);
 }
 
-// A row into the three slices: its time and its side's code at place row, its n amounts from place row × n on.
-fn put_row(
-    times: &mut [f64],
-    sides: &mut [u8],
-    values: &mut [f64],
-    row: usize,
-    n: usize,
-    time: f64,
-    side: u8,
-    amounts: [f64; STATES],
-)
-    requires { (n ≤ states) × (row < length times.old) × (row < length sides.old) × (row * n + n ≤ length values.old) }
-    ensures { (times.new ≡ put row (time ∷ []) times.old) × (sides.new ≡ put row (side ∷ []) sides.old)
-        × (values.new ≡ put (row * n) (take n amounts) values.old) }
-{
-    times[row] = time;
-    sides[row] = side;
-    let at = row * n;
-    let state = &amounts[..n];
-    row_writer(state, &mut values[at..]);
+// The slices that the rows of a run are written into: times and sides, a cell a row, and values, n amounts from place row × n on.
+#[derive(Drop)]
+pub struct Rows<'a> {
+    pub times: &'a mut [f64],
+    pub sides: &'a mut [u8],
+    pub values: &'a mut [f64],
 }
 
-// A row at t behind those written.
-pub fn write_row(
-    n: usize,
-    t: f64,
-    side: u8,
-    start: Progress,
-    times: &mut [f64],
-    sides: &mut [u8],
-    values: &mut [f64],
-) -> Progress
-    requires { (n ≤ states) × RoomForRows n (start.rows + 1) (cells times.old sides.old values.old) }
-    ensures { (result ≡ past_row start) × (times.new ≡ put start.rows (t ∷ []) times.old)
-        × (sides.new ≡ put start.rows (side ∷ []) sides.old)
-        × (values.new ≡ put (start.rows * n) (take n start.amounts) values.old) }
-{
-    let amounts = start.amounts;
-    let row = start.rows;
-    put_row(times, sides, values, row, n, t, side, amounts);
-    start.past_row()
+impl Rows<'_> {
+    // A row at t behind those written.
+    pub fn write(&mut self, n: usize, t: f64, side: Side, start: Progress) -> Progress
+        requires { (n ≤ states) × RoomForRows n (start.rows + 1) (cells_of self.old) }
+        ensures behind { result ≡ past_row start }
+        ensures row { cells_of self.new ≡ with_row_at n start.rows (row_of n t side start) (cells_of self.old) }
+        ensures slices { SameSlices self.old self.new }
+    {
+        let row = start.rows;
+        self.times[row] = t;
+        self.sides[row] = side.code();
+        let at = row * n;
+        let amounts = start.amounts;
+        row_writer(&amounts[..n], &mut self.values[at..]);
+        start.past_row()
+    }
 }
 
 // The kernel's advance over n states.
@@ -183,17 +152,17 @@ pub fn arrive(
     rates: [f64; STATES],
     u: f64,
     start: Progress,
-) -> Progress
+) -> Result<Progress, Stopped>
     requires { (n ≤ states) × (start.made < 4294967296) }
     ensures { (c : Cells) → Ran (kernel_advance kernel n) n start (arrives t (take n rates) u ∷ []) c result c }
 {
     let next = start.past_advance();
     if start.left == 0 {
-        return next.stopped_by(Refusal::PropagationBudget, u);
+        return Err(next.stopped_by(Refusal::PropagationBudget, u));
     }
     let amounts = start.amounts;
     match propagate(kernel, n, amounts, rates, u - t) {
-        Err(refusal) => next.stopped_by(refusal, u),
-        Ok(reached) => next.with_amounts(reached),
+        Err(refusal) => Err(next.stopped_by(refusal, u)),
+        Ok(reached) => Ok(next.with_amounts(reached)),
     }
 }

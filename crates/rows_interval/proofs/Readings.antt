@@ -4,18 +4,19 @@ use Prim.Native.Nat.{ℕ, ◌+◌, ◌<◌, ◌≤◌}
 use native.Mathlib.Numerals.{add-one}
 use native.Mathlib.Omega.{arith}
 use mathlib.Core.Bool.{Bool, true, false, ◌&&◌}
-use mathlib.Core.List.{List, [], ◌∷◌, ◌++◌, map, append-nil}
+use mathlib.Core.List.{List, [], ◌∷◌, ◌++◌, map, map-append, append-nil}
 use lib.ListN.{length, get_or, take, drop, take-append-drop}
-use lib.Seq.{take-suc, take_all}
+use lib.Seq.{take-suc}
 use lib.Ieee.{Float, nan, lt}
 use Rattle.binary64.specs.Lists.{pick, filter}
 use Rattle.protocol.specs.Events.{inside}
 use Rattle.protocol.specs.Schedule.{Step, reading}
 use Rattle.protocol.specs.Execute.{Propagator}
 use Rattle.rows.specs.Written.{Cells}
-use Rattle.rows.specs.Onward.{fresh}
-use Rattle.rows.specs.Standing.{is_refused, Ran, Fits}
+use Rattle.std.specs.Prelude.{Ok, Err}
+use Rattle.rows.specs.Standing.{Ran, Fits}
 use Rattle.rows.specs.declared.Progress.{Progress}
+use Rattle.rows.specs.declared.Stopped.{Stopped}
 use Rattle.rows.proofs.Parts.{ran-nothing, ran_then, ran-stops, fits_first, fits_then}
 
 filter-append : {A : Type 0} (p : A → Bool) (xs ys : List A) → filter p (xs ++ ys) ≡ filter p xs ++ filter p ys
@@ -25,10 +26,6 @@ filter-append {A} p (x ∷ xs) ys = on (p x) (filter-append p xs ys)
     on : (b : Bool) → filter p (xs ++ ys) ≡ filter p xs ++ filter p ys → pick b x (filter p (xs ++ ys)) ≡ pick b x (filter p xs) ++ filter p ys
     on true h = ap (◌∷◌ x) h
     on false h = h
-
-map-append : {A B : Type 0} (f : A → B) (xs ys : List A) → map f (xs ++ ys) ≡ map f xs ++ map f ys
-map-append f [] ys = refl
-map-append f (x ∷ xs) ys = ap (◌∷◌ (f x)) (map-append f xs ys)
 
 module _ (t : Float) (r : List Float) (u : Float) where
   abbrev reads : List Float → List Step
@@ -63,24 +60,19 @@ module _ (t : Float) (r : List Float) (u : Float) where
 pub record Through (advance : Propagator) (n : ℕ) (start : Progress) (t : Float) (r : List Float) (u : Float) (ss : List Float)
     (old : Cells) (p : Progress) (k : ℕ) (c : Cells) : Type 0 where
   pub below : k ≤ length ss
-  pub going : is_refused p.reply ≡ false
-  pub ran : Ran advance n start (reads_to t r u ss k) old p c
+  pub ran : Ran advance n start (reads_to t r u ss k) old (Ok p) c
 
 module _ {advance : Propagator} {n : ℕ} {t : Float} {r : List Float} {u : Float} {ss : List Float} {old : Cells} where
-  pub through_none : (start : Progress) {p : Progress} → p ≡ fresh start → Through advance n p t r u ss old p 0 old
-  through_none start e = rw e (record { below = omega arith; going = refl; ran = ran-nothing (fresh start) old })
+  pub through_none : (start : Progress) → Through advance n start t r u ss old start 0 old
+  through_none start = record { below = omega arith; ran = ran-nothing start old }
 
   module _ {start p : Progress} {k : ℕ} {c : Cells} (h : Through advance n start t r u ss old p k c) where
-    pub through_all : length ss ≤ k → Ran advance n start (map (reading t r) (inside t u ss)) old p c
-    through_all l = subst (λ (x : List Float). Ran advance n start (reads t r u x) old p c) (take_all k ss l) h.ran
-
     module _ (l : k < length ss) where
       passed : reads t r u (get_or ss k nan ∷ []) ≡ [] → Through advance n start t r u ss old p (k + 1) c
       passed e = record {
         below = omega arith;
-        going = h.going;
         ran =
-            subst (λ (x : List Step). Ran advance n start x old p c) (sym (reads_more t r u ss k l
+            subst (λ (x : List Step). Ran advance n start x old (Ok p) c) (sym (reads_more t r u ss k l
             ∙ ap (λ (x : List Step). reads_to t r u ss k ++ x) e ∙ append-nil (reads_to t r u ss k))) h.ran;
       }
 
@@ -101,20 +93,19 @@ module _ {advance : Propagator} {n : ℕ} {t : Float} {r : List Float} {u : Floa
             (subst (λ (x : List Step). Fits n start x old) (reads_whole t r u ss k l
             ∙ ap (λ (x : List Step). (reads_to t r u ss k ++ x) ++ reads t r u (drop (k + 1) ss)) (sym one)) g)) h.ran
 
-        module _ {q : Progress} {d : Cells} (g : Ran advance n p (reading t r (get_or ss k nan) ∷ []) c q d) where
-          joined : Ran advance n start (reads_to t r u ss k ++ reads t r u (get_or ss k nan ∷ [])) old q d
-          joined = subst (λ (x : List Step). Ran advance n start (reads_to t r u ss k ++ x) old q d) one (ran_then h.ran h.going g)
+        pub through_stops : {z : Stopped} {d : Cells} → Ran advance n p (reading t r (get_or ss k nan) ∷ []) c (Err z) d
+            → Ran advance n start (map (reading t r) (inside t u ss)) old (Err z) d
+        through_stops {z} {d} g =
+            subst (λ (x : List Step). Ran advance n start x old (Err z) d) (sym (reads_whole t r u ss k l))
+            (ran-stops (reads t r u (drop (k + 1) ss))
+            (subst (λ (x : List Step). Ran advance n start (reads_to t r u ss k ++ x) old (Err z) d) one (ran_then h.ran g)))
 
-          pub through_stops : is_refused q.reply ≡ true → Ran advance n start (map (reading t r) (inside t u ss)) old q d
-          through_stops s =
-              subst (λ (x : List Step). Ran advance n start x old q d) (sym (reads_whole t r u ss k l))
-              (ran-stops (reads t r u (drop (k + 1) ss)) joined s)
-
-          pub through_more : is_refused q.reply ≡ false → Through advance n start t r u ss old q (k + 1) d
-          through_more s =
-              record {
-                below = omega arith;
-                going = s;
-                ran = subst (λ (x : List Step). Ran advance n start x old q d)
-                    (sym (reads_more t r u ss k l)) joined;
-              }
+        pub through_more : {q : Progress} {d : Cells} → Ran advance n p (reading t r (get_or ss k nan) ∷ []) c (Ok q) d
+            → Through advance n start t r u ss old q (k + 1) d
+        through_more {q} {d} g =
+            record {
+              below = omega arith;
+              ran =
+                  subst (λ (x : List Step). Ran advance n start x old (Ok q) d) (sym (reads_more t r u ss k l))
+                  (subst (λ (x : List Step). Ran advance n start (reads_to t r u ss k ++ x) old (Ok q) d) one (ran_then h.ran g));
+            }

@@ -32,7 +32,7 @@ pub fn model_fits(part: &[u8]) -> bool
             & ((volumes <= VOLUMES as u64) & (count as u64 == 2 * (volumes % STATES as u64) + 3)))
 }
 
-// A part of a file, as its little-endian 64-bit words.
+// A part of a file, as its little-endian 64-bit words. By word, since bytes lend no slice of words.
 #[derive(Clone, Copy)]
 pub struct Part<'a>(pub &'a [u8]);
 

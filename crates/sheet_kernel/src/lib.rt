@@ -15,6 +15,7 @@ use linear_pk::LinearPk;
 use refusal::Refusal;
 use sheet_words::Places;
 
+// By hand: the depot's word is a flag, and the next one is a number only beside it; there is no single value to convert from.
 fn absorption_of(part: &[u8]) -> Option<f64>
     requires { 32 ≤ length part.now }
     ensures { result ≡ model_absorption (words_of part.now) }

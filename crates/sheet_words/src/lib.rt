@@ -11,6 +11,7 @@ use limits::SHEET_WORDS;
 const HEAD: usize = 11;
 
 // Word i, whose bytes are there.
+// By the library: `from_le_bytes` takes the eight.
 pub fn word(bytes: &[u8], i: usize) -> u64
     requires { 8 * i + 8 ≤ length bytes.now }
     ensures { result ≡ word_of (words_of bytes.now) i }

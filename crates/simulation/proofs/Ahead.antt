@@ -31,13 +31,14 @@ use Rattle.simulation.specs.KernelRun.{propagator_of}
 use Rattle.preparation.specs.Preparation.{own_number, option_number}
 use Rattle.simulation_report.specs.Replies.{run_reply}
 use Rattle.simulation.specs.Entries.{simulate_entry}
-use Rattle.simulation_report.specs.declared.RunReply.TheVariants.{Refused}
+use Rattle.std.specs.Prelude.{Err}
+use Rattle.simulation_report.specs.declared.RunError.TheVariants.{Refused}
 use Rattle.refusal.proofs.Numbers.{refusal-number}
 use Rattle.preparation.proofs.Tests.{prepare-passes}
 
 -- ---- a refusal: its number, and slices as they were
 pub refuses : (r : Refusal) {o : R.Result Outcome} (rows n : ℕ) (times : List Float) (sides : List ℕ) (values : List Float) → o ≡ R.refused (refusal_number r)
-    → (run_reply (Refused r) ≡ report_of o) × ((times ≡ times_at_exit rows o times)
+    → (run_reply (Err (Refused r)) ≡ report_of o) × ((times ≡ times_at_exit rows o times)
     × ((sides ≡ sides_at_exit rows o sides) × (values ≡ values_at_exit rows n o values)))
 refuses r rows n times sides values e = (
   sym (ap report_of e),

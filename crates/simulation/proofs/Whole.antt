@@ -1,6 +1,6 @@
 -- A whole run that no test ahead refuses: what it leaves is what `simulate` says.
 use mathlib.Core.Path.{◌≡◌, refl, sym, ap, ap₂, ◌∙◌, subst}
-use mathlib.Core.Bool.{Bool, true, false, cond, not}
+use mathlib.Core.Bool.{Bool, true, false, not}
 use mathlib.Core.List.{List, [], ◌∷◌, ◌++◌, append_assoc}
 use mathlib.Core.Option.{some, none}
 use Prim.Native.Nat.{ℕ, ◌+◌, ◌-◌, ◌*◌, ◌≤◌, zero-le}
@@ -19,21 +19,19 @@ use Rattle.protocol.specs.declared.Event.{Event}
 use Rattle.protocol.specs.declared.Window.{Window}
 use Rattle.protocol.specs.Prepare.{reckoned, prepare}
 use Rattle.refusal.specs.Result.{Result, done, and_then, unless}
-use Rattle.refusal.specs.Numbers.{reply_number}
-use Rattle.refusal.specs.declared.Refusal.{Refusal}
-use Rattle.refusal.specs.Numbers.{Reply as Answer}
-use Rattle.std.specs.Prelude.{Ok, Err}
+use Rattle.std.specs.Prelude.{Ok, Err, Result as Came}
 use Rattle.linear_pk.specs.declared.kernel.LinearPk.{LinearPk}
 use Rattle.linear_pk.specs.LinearPk.{state_count, volumes_pass, matrix_finite, sound}
 use Rattle.protocol.specs.Execute.{Row, Outcome, go, stop, run, begin, run_of}
-use Rattle.protocol.specs.Entry.{first_refusal, RunReport, report_of, side_code, front_then_zeros, at_exit, times_at_exit, sides_at_exit, values_at_exit}
+use Rattle.protocol.specs.Entry.{first_refusal, report_of, side_code, front_then_zeros, at_exit, times_at_exit, sides_at_exit, values_at_exit}
 use Rattle.protocol.specs.PlainRun.{Prepared, PlainRun, rows_left}
 use Rattle.protocol.specs.Schedule.{schedule}
 use Rattle.protocol.proofs.EntryLaws.{Passes, ahead_none, laid_length, one_each, width, n_each}
 use Rattle.protocol.proofs.ListLaws.{both, all→All, All-map}
 use Rattle.rows.specs.declared.Progress.{Progress}
+use Rattle.rows.specs.declared.Stopped.{Stopped as Stop}
 use Rattle.rows.specs.Written.{put, Cells, cells, written, RoomForRows}
-use Rattle.rows.specs.Standing.{Standing, is_refused, standing, behind_of, after, Ran, kernel_advance}
+use Rattle.rows.specs.Standing.{Standing, standing, came_to, behind_of, after, Ran, kernel_advance}
 use Rattle.rows.proofs.Exits.{written-times, written-sides, written-values, put_zeros, progress_reply, ran-reply, ran-rows}
 use Rattle.rows.proofs.Parts.{ran-same}
 use Rattle.rows.proofs.Puts.{room_less}
@@ -41,7 +39,7 @@ use Rattle.simulation.specs.KernelRun.{propagator_of, refusal_of}
 use Rattle.preparation.specs.Preparation.{own_number}
 use Rattle.simulation_matrix.specs.Started.{started}
 use Rattle.simulation_report.specs.Replies.{room, run_reply}
-use Rattle.simulation_report.specs.declared.RunReply.TheVariants.{Stopped, Reached}
+use Rattle.simulation_report.specs.declared.RunError.TheVariants.{Stopped}
 use Rattle.simulation.proofs.KernelRuns.{kernel-run}
 
 -- ---- what holds where no test ahead refuses
@@ -125,7 +123,7 @@ module _ (k : LinearPk) (initial : List Float) (w : Window) (ss : List Float) (e
           ∙ laid_length plus_zero (reckoned ss es * state_count k) [] values zero-le whole_room.values)) whole_room.values;
     }
 
-    module _ {p : Progress} {ts' : List Float} {ds' : List ℕ} {vs' : List Float} (prep : Prepared (state_count k) w ss es)
+    module _ {p : Came Progress Stop} {ts' : List Float} {ds' : List ℕ} {vs' : List Float} (prep : Prepared (state_count k) w ss es)
         (r : Ran (kernel_advance k (state_count k)) (state_count k) (started initial w.propagations) (schedule (state_count k) w ss es)
         (cells ts ds vs) p (cells ts' ds' vs')) where
       abbrev pub outcome : Outcome
@@ -186,7 +184,10 @@ module _ (k : LinearPk) (initial : List Float) (w : Window) (ss : List Float) (e
               All-map (λ (x : Row) (q : T (amounts_pass (state_count k) x.amounts)). width (state_count k) x q) rs
               (all→All (λ (x : Row). amounts_pass (state_count k) x.amounts) rs g)
 
-      stops_as : is_refused p.reply ≡ is_stop outcome
+      abbrev stops : Came Progress Stop → Bool
+      stops x = (came_to (state_count k) x).stopped
+
+      stops_as : stops p ≡ is_stop outcome
       unfolding run_of kernel_advance firsts after
       stops_as =
           ap (λ (q : Standing). q.stopped) r.progress
@@ -196,29 +197,21 @@ module _ (k : LinearPk) (initial : List Float) (w : Window) (ss : List Float) (e
           on (go z) = refl
           on (stop c u z) = refl
 
-      pub reached_exit : p.reply ≡ Ok tt
+      pub reached_exit : (z : Progress) → p ≡ Ok z
           → (ts' ≡ times_at_exit (reckoned ss es) (done outcome) times) × (ds' ≡ sides_at_exit (reckoned ss es) (done outcome) sides)
           × (vs' ≡ values_at_exit (reckoned ss es) (state_count k) (done outcome) values)
-      reached_exit e =
-          let g = sym stops_as ∙ ap is_refused e in (
+      reached_exit z e =
+          let g = sym stops_as ∙ ap stops e in (
             times_are ∙ sym (exit_reached plus_zero (λ (x : Row). x.time ∷ []) (reckoned ss es) outcome times g),
             sides_are ∙ sym (exit_reached 0 (λ (x : Row). side_code x.side ∷ []) (reckoned ss es) outcome sides g),
             values_are ∙ sym (exit_reached plus_zero (λ (x : Row). x.amounts) (reckoned ss es * state_count k) outcome values g),
           )
 
-      pub stopped-reply : (x : Refusal) → p.reply ≡ Err x → run_reply (Stopped x p.time p.made) ≡ report_of (done outcome)
-      stopped-reply x e =
-          ap (λ (y : Answer). record { number = reply_number y; time = p.time; rows = cond (is_refused y) 0 p.rows; advances = p.made })
-          (sym e) ∙ whole-reply
+      pub stopped-reply : (z : Stop) → p ≡ Err z → run_reply (Err (Stopped z.refusal z.time z.at.made)) ≡ report_of (done outcome)
+      stopped-reply z e = ap progress_reply (sym e) ∙ whole-reply
 
-      pub reached-reply : p.reply ≡ Ok tt → run_reply (Reached p.rows p.made) ≡ report_of (done outcome)
-      reached-reply e = on outcome whole-reply (sym stops_as ∙ ap is_refused e)
-        where
-          on : (o : Outcome) → progress_reply p ≡ report_of (done o) → is_stop o ≡ false → run_reply (Reached p.rows p.made) ≡ report_of (done o)
-          on (go z) q g = ap₂ (λ (i j : ℕ). record { number = 0; time = plus_zero; rows = i; advances = j })
-              (ap (λ (y : Answer). cond (is_refused y) 0 p.rows) (sym e) ∙ ap (λ (x : RunReport). x.rows) q)
-              (ap (λ (x : RunReport). x.advances) q)
-          on (stop c u z) q g = absurd (subst T g tt)
+      pub reached-reply : (z : Progress) → p ≡ Ok z → run_reply (Ok (record { rows = z.rows; advances = z.made })) ≡ report_of (done outcome)
+      reached-reply z e = ap progress_reply (sym e) ∙ whole-reply
 
       -- room for zeros again
       pub left-room : RoomForRows (state_count k) (reckoned ss es) (cells ts' ds' vs')
@@ -240,13 +233,13 @@ module _ (k : LinearPk) (initial : List Float) (w : Window) (ss : List Float) (e
                 ∙ laid_length plus_zero (reckoned ss es * state_count k) [] values zero-le whole_room.values,
           )
 
-      pub stopped_exit : (x : Refusal) → p.reply ≡ Err x → {ts'' : List Float} {ds'' : List ℕ} {vs'' : List Float}
+      pub stopped_exit : (z : Stop) → p ≡ Err z → {ts'' : List Float} {ds'' : List ℕ} {vs'' : List Float}
           → ts'' ≡ front_then_zeros plus_zero (reckoned ss es) [] ts' → ds'' ≡ front_then_zeros 0 (reckoned ss es) [] ds'
           → vs'' ≡ front_then_zeros plus_zero (reckoned ss es * state_count k) [] vs'
           → (ts'' ≡ times_at_exit (reckoned ss es) (done outcome) times) × (ds'' ≡ sides_at_exit (reckoned ss es) (done outcome) sides)
           × (vs'' ≡ values_at_exit (reckoned ss es) (state_count k) (done outcome) values)
-      stopped_exit x e a b c =
-          let g = sym stops_as ∙ ap is_refused e in (
+      stopped_exit z e a b c =
+          let g = sym stops_as ∙ ap stops e in (
             a ∙ ap (front_then_zeros plus_zero (reckoned ss es) []) times_are ∙ laid_over plus_zero (reckoned ss es) time_cells times time-count
                 ∙ sym (exit_stopped plus_zero (λ (x : Row). x.time ∷ []) (reckoned ss es) outcome times g),
             b ∙ ap (front_then_zeros 0 (reckoned ss es) []) sides_are ∙ laid_over 0 (reckoned ss es) side_cells sides side-count
@@ -283,7 +276,7 @@ module _ (k : LinearPk) (initial : List Float) (w : Window) (ss : List Float) (e
       pub room_to_run : RoomForRows n (reckoned ss es) (cells ts ds vs)
       room_to_run = subst (λ (j : ℕ). RoomForRows j (reckoned ss es) (cells ts ds vs)) (sym m) (cleared_room times_cleared sides_cleared values_cleared)
 
-      module _ {p : Progress} {ts' : List Float} {ds' : List ℕ} {vs' : List Float}
+      module _ {p : Came Progress Stop} {ts' : List Float} {ds' : List ℕ} {vs' : List Float}
           (a : Prepared n w ss es × Ran (kernel_advance k n) n (started initial w.propagations) (schedule n w ss es) (cells ts ds vs) p
           (cells ts' ds' vs')) where
         prepared : Prepared (state_count k) w ss es
@@ -300,13 +293,13 @@ module _ (k : LinearPk) (initial : List Float) (w : Window) (ss : List Float) (e
             subst (λ (j : ℕ). RoomForRows j rows (cells ts' ds' vs')) (sym m)
             (subst (λ (i : ℕ). RoomForRows (state_count k) i (cells ts' ds' vs')) (sym q) (left-room times_cleared sides_cleared values_cleared prepared ran))
 
-        pub reached : p.reply ≡ Ok tt
-            → (run_reply (Reached p.rows p.made) ≡ report_of whole)
+        pub reached : (z : Progress) → p ≡ Ok z
+            → (run_reply (Ok (record { rows = z.rows; advances = z.made })) ≡ report_of whole)
             × ((ts' ≡ times_at_exit (reckoned ss es) whole times)
             × ((ds' ≡ sides_at_exit (reckoned ss es) whole sides) × (vs' ≡ values_at_exit (reckoned ss es) (state_count k) whole values)))
-        reached e =
-            let x = reached_exit times_cleared sides_cleared values_cleared prepared ran e in (
-              reached-reply times_cleared sides_cleared values_cleared prepared ran e,
+        reached z e =
+            let x = reached_exit times_cleared sides_cleared values_cleared prepared ran z e in (
+              reached-reply times_cleared sides_cleared values_cleared prepared ran z e,
               (x.0, (x.1, x.2)),
             )
 
@@ -325,12 +318,12 @@ module _ (k : LinearPk) (initial : List Float) (w : Window) (ss : List Float) (e
           pub same_again : (length ts'' ≡ length times) × (length ds'' ≡ length sides) × (length vs'' ≡ length values)
           same_again = stopped-same times_cleared sides_cleared values_cleared prepared ran times_again sides_again values_again
 
-          pub stopped : (r : Refusal) → p.reply ≡ Err r
-              → (run_reply (Stopped r p.time p.made) ≡ report_of whole)
+          pub stopped : (z : Stop) → p ≡ Err z
+              → (run_reply (Err (Stopped z.refusal z.time z.at.made)) ≡ report_of whole)
               × ((ts'' ≡ times_at_exit (reckoned ss es) whole times)
               × ((ds'' ≡ sides_at_exit (reckoned ss es) whole sides) × (vs'' ≡ values_at_exit (reckoned ss es) (state_count k) whole values)))
-          stopped r e =
-              let x = stopped_exit times_cleared sides_cleared values_cleared prepared ran r e times_again sides_again values_again in (
-                stopped-reply times_cleared sides_cleared values_cleared prepared ran r e,
+          stopped z e =
+              let x = stopped_exit times_cleared sides_cleared values_cleared prepared ran z e times_again sides_again values_again in (
+                stopped-reply times_cleared sides_cleared values_cleared prepared ran z e,
                 (x.0, (x.1, x.2)),
               )

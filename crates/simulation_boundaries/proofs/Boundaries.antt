@@ -1,8 +1,8 @@
 -- The loop over boundaries: what has run so far, and what is left of the schedule.
 use mathlib.Core.Path.{◌≡◌, refl, sym, ap, ◌∙◌, subst}
-use mathlib.Core.Bool.{Bool, true, false}
+use mathlib.Core.Bool.{Bool, false}
 use mathlib.Core.List.{List, [], ◌∷◌, ◌++◌, append_assoc}
-use Prim.Native.Nat.{ℕ, zero, suc, ◌+◌, ◌<◌, ◌≤◌}
+use Prim.Native.Nat.{ℕ, suc, ◌+◌, ◌<◌, ◌≤◌}
 use native.Mathlib.Numerals.{add-one}
 use native.Mathlib.Omega.{arith}
 use lib.ListN.{length, get_or, drop, take, replicate}
@@ -14,10 +14,12 @@ use Rattle.protocol.specs.Schedule.{Step, summed, marked, at_boundary, on_interv
 use Rattle.protocol.specs.Execute.{Propagator}
 use Rattle.protocol.specs.declared.Event.{Event}
 use Rattle.rows.specs.Written.{Cells}
-use Rattle.rows.specs.Onward.{fresh}
-use Rattle.rows.specs.Standing.{is_refused, Ran, Fits}
+use Rattle.std.specs.Prelude.{Ok, Err, Result}
+use Rattle.std.proofs.Common.{drop_of_length-le}
+use Rattle.rows.specs.Standing.{Ran, Fits}
 use Rattle.rows.specs.declared.Progress.{Progress}
-use Rattle.rows.proofs.Parts.{fits_fresh, ran-nothing, ran-stops, ran_then, fits_first, fits_then}
+use Rattle.rows.specs.declared.Stopped.{Stopped}
+use Rattle.rows.proofs.Parts.{ran-nothing, ran-stops, ran_then, fits_first, fits_then}
 
 -- what is left from boundary b on, with the marks ms
 abbrev pub left_of : ℕ → List Event → List Float → List Float → List Bool → ℕ → List Step
@@ -28,19 +30,17 @@ module _ (advance : Propagator) (n : ℕ) (es : List Event) (ss bs : List Float)
   pub record Going (ms : List Bool) (p : Progress) (c : Cells) (b : ℕ) : Type 0 where
     pub ahead : List Step
     pub whole : ahead ++ left_of n es ss bs ms b ≡ from_first n es ss bs
-    pub ran : Ran advance n start ahead old p c
-    pub on : is_refused p.reply ≡ false
+    pub ran : Ran advance n start ahead old (Ok p) c
     pub room : Fits n p (left_of n es ss bs ms b) c
 
-  pub going_start : (s : Progress) → start ≡ fresh s → {ms : List Bool} → 1 ≤ length bs → ms ≡ replicate (length es) false
-      → Fits n s (from_first n es ss bs) old → Going ms start old 0
+  pub going_start : {ms : List Bool} → 1 ≤ length bs → ms ≡ replicate (length es) false
+      → Fits n start (from_first n es ss bs) old → Going ms start old 0
   unfolding from_first
-  going_start s e {ms} h m f = record {
+  going_start {ms} h m f = record {
     ahead = [];
     whole = same;
-    ran = rw e (ran-nothing (fresh s) old);
-    on = rw e;
-    room = subst (λ (xs : List Step). Fits n start xs old) (sym same) (fits_fresh s e f);
+    ran = ran-nothing start old;
+    room = subst (λ (xs : List Step). Fits n start xs old) (sym same) f;
   }
     where
       first : (bs : List Float) → 1 ≤ length bs → left_of n es ss bs (replicate (length es) false) 0 ≡ from_first n es ss bs
@@ -56,16 +56,7 @@ module _ (advance : Propagator) (n : ℕ) (es : List Event) (ss bs : List Float)
   -- the last boundary
   at_last : (ms : List Bool) (b : ℕ) → length bs ≤ suc b → left_of n es ss bs ms b ≡ at_boundary (get_or bs b nan) es
   unfolding following
-  at_last ms b h = rw (drop_all bs (suc b) h)
-    where
-      drop_all : {A : Type 0} (xs : List A) (i : ℕ) → length xs ≤ i → drop i xs ≡ []
-      drop_all [] zero h = refl
-      drop_all [] (suc i) h = refl
-      drop_all (x ∷ xs) zero h = absurd (no h)
-        where
-          no : suc (length xs) ≤ 0 → ⊥
-          no h = omega arith
-      drop_all (x ∷ xs) (suc i) h = drop_all xs i (omega arith)
+  at_last ms b h = rw (drop_of_length-le bs {i = suc b} h)
 
   -- a boundary with another behind it
   abbrev interval : List Bool → ℕ → List Step
@@ -81,10 +72,10 @@ module _ (advance : Propagator) (n : ℕ) (es : List Event) (ss bs : List Float)
     end-room h = subst (λ (xs : List Step). Fits n p xs c) (at_last ms b h) g.room
 
     -- the block at the last boundary
-    pub end-ran : {q : Progress} {d : Cells} → length bs ≤ suc b → Ran advance n p (at_boundary (get_or bs b nan) es) c q d
-        → Ran advance n start (from_first n es ss bs) old q d
-    end-ran {q} {d} h r = subst (λ (xs : List Step). Ran advance n start xs old q d) (ap (λ (xs : List Step). g.ahead ++ xs)
-        (sym (at_last ms b h)) ∙ g.whole) (ran_then g.ran g.on r)
+    pub end-ran : {r : Result Progress Stopped} {d : Cells} → length bs ≤ suc b → Ran advance n p (at_boundary (get_or bs b nan) es) c r d
+        → Ran advance n start (from_first n es ss bs) old r d
+    end-ran {r} {d} h k = subst (λ (xs : List Step). Ran advance n start xs old r d) (ap (λ (xs : List Step). g.ahead ++ xs)
+        (sym (at_last ms b h)) ∙ g.whole) (ran_then g.ran k)
 
     module _ (h : suc b < length bs) where
       abbrev rest : List Step
@@ -99,43 +90,40 @@ module _ (advance : Propagator) (n : ℕ) (es : List Event) (ss bs : List Float)
       pub here_room : Fits n p (at_boundary (get_or bs b nan) es) c
       here_room = fits_first (at_boundary (get_or bs b nan) es) rest room_here
 
-      module _ {q : Progress} {d : Cells} (r : Ran advance n p (at_boundary (get_or bs b nan) es) c q d) where
-        so_far : Ran advance n start (g.ahead ++ at_boundary (get_or bs b nan) es) old q d
-        so_far = ran_then g.ran g.on r
+      pub here_stopped : {z : Stopped} {d : Cells} → Ran advance n p (at_boundary (get_or bs b nan) es) c (Err z) d
+          → Ran advance n start (from_first n es ss bs) old (Err z) d
+      here_stopped {z} {d} r = subst (λ (xs : List Step). Ran advance n start xs old (Err z) d) whole_here (ran-stops rest (ran_then g.ran r))
 
-        pub here_stopped : is_refused q.reply ≡ true → Ran advance n start (from_first n es ss bs) old q d
-        here_stopped s = subst (λ (xs : List Step). Ran advance n start xs old q d) whole_here (ran-stops rest so_far s)
+      module _ {q : Progress} {d : Cells} (r : Ran advance n p (at_boundary (get_or bs b nan) es) c (Ok q) d) where
+        so_far : Ran advance n start (g.ahead ++ at_boundary (get_or bs b nan) es) old (Ok q) d
+        so_far = ran_then g.ran r
 
-        pub next-room : Fits n q (interval ms b) d
+        next-room : Fits n q (interval ms b) d
         next-room =
             fits_first (interval ms b) (left_of n es ss bs (marked (get_or bs b nan) es ms) (suc b))
             (fits_then (at_boundary (get_or bs b nan) es) rest room_here r)
 
-        module _ {u : Progress} {e : Cells} (o : is_refused q.reply ≡ false) (k : Ran advance n q (interval ms b) d u e) where
-          further : Ran advance n start ((g.ahead ++ at_boundary (get_or bs b nan) es) ++ interval ms b) old u e
-          further = ran_then so_far o k
+        whole-next : ((g.ahead ++ at_boundary (get_or bs b nan) es) ++ interval ms b)
+            ++ left_of n es ss bs (marked (get_or bs b nan) es ms) (suc b) ≡ from_first n es ss bs
+        whole-next =
+            append_assoc (g.ahead ++ at_boundary (get_or bs b nan) es) (interval ms b)
+            (left_of n es ss bs (marked (get_or bs b nan) es ms) (suc b)) ∙ whole_here
 
-          whole-next : ((g.ahead ++ at_boundary (get_or bs b nan) es) ++ interval ms b)
-              ++ left_of n es ss bs (marked (get_or bs b nan) es ms) (suc b) ≡ from_first n es ss bs
-          whole-next =
-              append_assoc (g.ahead ++ at_boundary (get_or bs b nan) es) (interval ms b)
-              (left_of n es ss bs (marked (get_or bs b nan) es ms) (suc b)) ∙ whole_here
+        next-stopped : {z : Stopped} {e : Cells} → Ran advance n q (interval ms b) d (Err z) e → Ran advance n start (from_first n es ss bs) old (Err z) e
+        next-stopped {z} {e} k =
+            subst (λ (xs : List Step). Ran advance n start xs old (Err z) e) whole-next (ran-stops
+            (left_of n es ss bs (marked (get_or bs b nan) es ms) (suc b)) (ran_then so_far k))
 
-          pub next-stopped : is_refused u.reply ≡ true → Ran advance n start (from_first n es ss bs) old u e
-          next-stopped s =
-              subst (λ (xs : List Step). Ran advance n start xs old u e) whole-next (ran-stops
-              (left_of n es ss bs (marked (get_or bs b nan) es ms) (suc b)) further s)
-
-          pub next_going : {ns : List Bool} → ns ≡ marked (get_or bs b nan) es ms → is_refused u.reply ≡ false → Going ns u e (b + 1)
-          next_going m s = rw (m, add-one) (record {
-            ahead = (g.ahead ++ at_boundary (get_or bs b nan) es) ++ interval ms b;
-            whole = whole-next;
-            ran = further;
-            on = s;
-            room =
-                fits_then (interval ms b) (left_of n es ss bs (marked (get_or bs b nan) es ms) (suc b))
-                (fits_then (at_boundary (get_or bs b nan) es) rest room_here r) k;
-          })
+        next_going : {u : Progress} {e : Cells} → Ran advance n q (interval ms b) d (Ok u) e → {ns : List Bool} → ns ≡ marked (get_or bs b nan) es ms
+            → Going ns u e (b + 1)
+        next_going k m = rw (m, add-one) (record {
+          ahead = (g.ahead ++ at_boundary (get_or bs b nan) es) ++ interval ms b;
+          whole = whole-next;
+          ran = ran_then so_far k;
+          room =
+              fits_then (interval ms b) (left_of n es ss bs (marked (get_or bs b nan) es ms) (suc b))
+              (fits_then (at_boundary (get_or bs b nan) es) rest room_here r) k;
+        })
 
         -- the interval as the code has it: its rates summed over the marks ns, its end at b + 1
         module _ {ns : List Bool} {xs : List Float} (m : ns ≡ marked (get_or bs b nan) es ms) (f : xs ≡ summed n (get_or bs b nan) es ns) where
@@ -145,16 +133,17 @@ module _ (advance : Propagator) (n : ℕ) (es : List Event) (ss bs : List Float)
           pub code_room : Fits n q (on_interval (get_or bs b nan) xs (get_or bs (b + 1) nan) ss) d
           code_room = subst (λ (ys : List Step). Fits n q ys d) as_code next-room
 
-          module _ {u : Progress} {e : Cells} (o : is_refused q.reply
-              ≡ false) (k : Ran advance n q (on_interval (get_or bs b nan) xs (get_or bs (b + 1) nan) ss) d u e) where
-            as_interval : Ran advance n q (interval ms b) d u e
-            as_interval = subst (λ (ys : List Step). Ran advance n q ys d u e) (sym as_code) k
+          as_interval : {x : Result Progress Stopped} {e : Cells} → Ran advance n q (on_interval (get_or bs b nan) xs (get_or bs (b + 1) nan) ss) d x e
+              → Ran advance n q (interval ms b) d x e
+          as_interval {x} {e} k = subst (λ (ys : List Step). Ran advance n q ys d x e) (sym as_code) k
 
-            pub code_stopped : is_refused u.reply ≡ true → Ran advance n start (from_first n es ss bs) old u e
-            code_stopped s = next-stopped o as_interval s
+          pub code_stopped : {z : Stopped} {e : Cells} → Ran advance n q (on_interval (get_or bs b nan) xs (get_or bs (b + 1) nan) ss) d (Err z) e
+              → Ran advance n start (from_first n es ss bs) old (Err z) e
+          code_stopped k = next-stopped (as_interval k)
 
-            pub code_going : is_refused u.reply ≡ false → Going ns u e (b + 1)
-            code_going s = next_going o as_interval m s
+          pub code_going : {u : Progress} {e : Cells} → Ran advance n q (on_interval (get_or bs b nan) xs (get_or bs (b + 1) nan) ss) d (Ok u) e
+              → Going ns u e (b + 1)
+          code_going k = next_going (as_interval k) m
 
 -- no event is marked
 pub marks_none : (es : List Event) → length es ≤ most_events → take (length es) (replicate most_events false) ≡ replicate (length es) false

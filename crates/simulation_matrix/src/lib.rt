@@ -1,4 +1,5 @@
 // The analytic run of `simulate_matrix`: the boundaries, the distinct samples, and the run over them.
+// By fixed memory: n, the count of a kernel's states, stands beside arrays of the most states, since there is no heap.
 #![tactic(auto)]
 
 ghost use Rattle.std.specs.Prelude.{◌≡◌, ◌≤◌, T, length};
@@ -11,31 +12,31 @@ ghost use Rattle.protocol.specs.Events.{sorted_unique};
 ghost use Rattle.protocol.specs.Prepare.{reckoned, prepare as prepareOf};
 ghost use Rattle.protocol.specs.PlainRun.{Prepared};
 ghost use Rattle.protocol.specs.Schedule.{schedule};
-ghost use Rattle.rows.specs.Written.{cells, RoomForRows};
+ghost use Rattle.rows.specs.Written.{RoomForRows};
+ghost use Rattle.rows.specs.Lent.{cells_of, SameSlices};
 ghost use Rattle.rows.specs.Standing.{Ran, kernel_advance};
 ghost use Rattle.simulation_matrix.specs.Started.{started};
 
 use arrayvec::ArrayVec;
+use events_boundaries::Boundaries;
 use limits::{SAMPLES, STATES};
 use linear_pk::LinearPk;
 use protocol::{Event, Window};
-use refusal::Refusal;
-use rows::Progress;
+use rows::{Progress, Rows, Stopped};
 
 pub type Readings = ArrayVec<f64, SAMPLES>;
 
 // The samples in order and each once.
-fn distinct(samples: &[f64]) -> Readings
+fn distinct(samples: &[f64], readings: &mut Readings)
     requires { length samples.now ≤ most_samples }
-    ensures { (result.items ≡ sorted_unique samples.now) × T (all (fits binary64) samples.now) }
+    ensures { (readings.new.items ≡ sorted_unique samples.now) × T (all (fits binary64) samples.now) }
 {
-    let mut readings = Readings::new();
+    readings.clear();
     for sample in samples {
         readings.push(*sample);
     }
     let kept = events_times::sorted_unique(readings.as_mut_slice());
     readings.truncate(kept);
-    readings
 }
 
 // The whole schedule, over the distinct samples and the boundaries.
@@ -46,22 +47,21 @@ pub fn on_schedule(
     window: Window,
     events: &[Event],
     samples: &[f64],
-    times: &mut [f64],
-    sides: &mut [u8],
-    values: &mut [f64],
-) -> Progress
+    rows: &mut Rows<'_>,
+) -> Result<Progress, Stopped>
     requires { (n ≤ states) × (length events.now ≤ most_events) × (length samples.now ≤ most_samples)
         × (prepareOf n window samples.now events.now ≡ none)
-        × RoomForRows n (reckoned samples.now events.now) (cells times.old sides.old values.old) }
-    ensures { Prepared n window samples.now events.now
-        × Ran (kernel_advance kernel n) n (started initial window.propagations) (schedule n window samples.now events.now)
-        (cells times.old sides.old values.old) result (cells times.new sides.new values.new) }
+        × RoomForRows n (reckoned samples.now events.now) (cells_of rows.old) }
+    ensures prepared { Prepared n window samples.now events.now }
+    ensures ran { Ran (kernel_advance kernel n) n (started initial window.propagations) (schedule n window samples.now events.now)
+        (cells_of rows.old) result (cells_of rows.new) }
+    ensures slices { SameSlices rows.old rows.new }
 {
-    let readings = distinct(samples);
-    let bounds = events_boundaries::boundaries(window, events);
+    let mut readings = Readings::new();
+    distinct(samples, &mut readings);
+    let mut bounds = Boundaries::new();
+    events_boundaries::boundaries(window, events, &mut bounds);
     let start = Progress {
-        reply: Ok(()),
-        time: 0.0,
         amounts: initial,
         left: window.propagations,
         made: 0,
@@ -74,8 +74,6 @@ pub fn on_schedule(
         bounds.as_slice(),
         readings.as_slice(),
         start,
-        times,
-        sides,
-        values,
+        rows,
     )
 }

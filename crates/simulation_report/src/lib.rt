@@ -2,13 +2,20 @@
 #![tactic(auto)]
 
 ghost use Rattle.std.specs.Prelude.{◌≡◌};
-ghost use Rattle.simulation_report.specs.Replies.{run_reply, reported};
+ghost use Rattle.simulation_report.specs.Replies.{run_reply, refused_ahead, reported};
 
 use refusal::Refusal;
 
-// What a run replies.
+// A run that reached the post row at the end.
 #[derive(Clone, Copy)]
-pub enum RunReply {
+pub struct Reached {
+    pub rows: usize,
+    pub advances: u64,
+}
+
+// By errors: a run that has no end was refused ahead of it, or stopped on its way.
+#[derive(Clone, Copy)]
+pub enum RunError {
     // Refused ahead of the run.
     Refused(Refusal),
     // Stopped by a refusal at a time; the advances made, the refused one counted.
@@ -17,37 +24,43 @@ pub enum RunReply {
         time: f64,
         advances: u64,
     },
-    // At the post row at the end.
-    Reached {
-        rows: usize,
-        advances: u64,
-    },
 }
 
-// A reply as numbers; 0 is the number of a run that reached its end.
+impl From<Refusal> for RunError {
+    ghost from_gives = { λ r e. e ≡ refused_ahead r };
+
+    fn from(refusal: Refusal) -> RunError {
+        RunError::Refused(refusal)
+    }
+}
+
+// A reply as numbers, for C and for a sheet; 0 is the number of a run that reached its end.
 #[derive(Clone, Copy)]
 pub struct Report {
+    // By number: C is given it.
     pub number: u64,
     pub time: f64,
     pub rows: usize,
     pub advances: u64,
 }
 
-pub fn report_of(reply: RunReply) -> Report
+pub fn report_of(reply: Result<Reached, RunError>) -> Report
     ensures { reported result ≡ run_reply reply }
 {
     match reply {
-        RunReply::Refused(refusal) => Report {
+        Err(RunError::Refused(refusal)) => Report {
             number: refusal::number(Err(refusal)),
             time: 0.0,
             rows: 0,
             advances: 0,
         },
-        RunReply::Stopped {
-            refusal,
-            time,
-            advances,
-        } => {
+        Err(
+            RunError::Stopped {
+                refusal,
+                time,
+                advances,
+            },
+        ) => {
             let number = refusal::number(Err(refusal));
             Report {
                 number,
@@ -56,7 +69,7 @@ pub fn report_of(reply: RunReply) -> Report
                 advances,
             }
         }
-        RunReply::Reached { rows, advances } => Report {
+        Ok(Reached { rows, advances }) => Report {
             number: 0,
             time: 0.0,
             rows,

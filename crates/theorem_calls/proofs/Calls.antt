@@ -1,7 +1,7 @@
 -- Demand 3 of a call, from the entry's contract, the call's times and the fields of the one theorem.
 use mathlib.Core.Path.{◌≡◌}
 use Rattle.cycle.specs.ClosedCycle.{TimesFit}
-use Rattle.simulation_report.specs.declared.RunReply.{RunReply}
+use Rattle.simulation_report.specs.Replies.{RunReply}
 use Rattle.theorem_runs_and_cycles.specs.PeriodicSteadyState.{SteadyReply}
 use Rattle.simulation.specs.Entries.{run_reply}
 use Rattle.theorem_runs_and_cycles.specs.Simulate as S

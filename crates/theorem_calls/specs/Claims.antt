@@ -1,7 +1,7 @@
 -- Demand 3 of a call of the library's entries: nothing is given but what a caller can see. Claims, no proof.
 use Rattle.std.specs.Prelude.{◌≡◌, ◌<◌, Float}
 use Rattle.protocol.specs.declared.Window.{Window}
-use Rattle.simulation_report.specs.declared.RunReply.{RunReply}
+use Rattle.simulation_report.specs.Replies.{RunReply}
 use Rattle.simulation.specs.Entries.{run_reply}
 use Rattle.theorem_runs_and_cycles.specs.PeriodicSteadyState.{SteadyReply}
 use Rattle.periodic_acceptance.specs.Entry.{steady_reply}

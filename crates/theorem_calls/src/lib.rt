@@ -18,7 +18,7 @@ use linear_pk::LinearPk;
 use periodic_runs::Stop;
 use printout::PrintReply;
 use protocol::{Event, Window};
-use simulation_report::RunReply;
+use simulation_report::{Reached, RunError};
 
 // The times of the events are doubles: each is read.
 fn read_times(events: &[Event])
@@ -39,7 +39,7 @@ fn simulate(
     times: &mut [f64],
     sides: &mut [u8],
     values: &mut [f64],
-) -> RunReply
+) -> Result<Reached, RunError>
     ensures { Simulated
         (record {
           kernel = kernel;
@@ -83,8 +83,8 @@ fn window_of(start: f64, end: f64, settings: Settings) -> Window
 
 #[derive(Clone, Copy)]
 struct Replies {
-    first: RunReply,
-    second: RunReply,
+    first: Result<Reached, RunError>,
+    second: Result<Reached, RunError>,
 }
 
 // Two runs that differ in samples, tolerances, budgets and slices alone, where both reply 0.

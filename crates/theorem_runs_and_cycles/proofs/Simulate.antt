@@ -31,7 +31,7 @@ use Rattle.preparation.proofs.Positive.{Positive, ahead-positive}
 use Rattle.simulation.proofs.Whole.{own_none}
 use Rattle.simulation.specs.KernelRun.{propagator_of, refusal_of}
 use Rattle.simulation.specs.Entries.{simulate_entry, run_reply}
-use Rattle.simulation_report.specs.declared.RunReply.{RunReply}
+use Rattle.simulation_report.specs.Replies.{RunReply}
 use Rattle.theorem_runs_and_cycles.specs.Simulate.{Slices, Call, call_states, reckoned_rows, call_room, entry_of, AtExit}
 use Rattle.theorem_runs_and_cycles.specs.Simulate.{Contract, TimesFit, Passed, run_on, FirstMetOn, AtEnd, AtStop, Replied, Apart}
 use Rattle.theorem_runs_and_cycles.specs.Simulate.{EverySimulate}

@@ -21,7 +21,7 @@ use Rattle.protocol.specs.SamplesApart.{SamplesApart}
 use Rattle.preparation.specs.Preparation.{own_number}
 use Rattle.simulation.specs.KernelRun.{propagator_of, refusal_of}
 use Rattle.simulation.specs.Entries.{room, simulate_entry, run_reply}
-use Rattle.simulation_report.specs.declared.RunReply.{RunReply}
+use Rattle.simulation_report.specs.Replies.{RunReply}
 
 -- ---- a call
 -- the cells of the lent slices

@@ -1,19 +1,17 @@
 -- `doses::apply_events` meets its contract.
-use mathlib.Core.Path.{sym, ◌∙◌}
-use Rattle.protocol.specs.Events.{resets, boluses}
+use Rattle.std.proofs.lemmas.Result.{err_from_is_err_and}
+use borrow.Author.Rules.{rules}
+use Rattle.protocol.specs.Events.{is_bolus, resets, boluses}
 use Rattle.doses.proofs.Doses.{both_stops, both_done}
 use Rattle.doses.proofs.apply_events.Goals as goal
 
-pub returns-then-stopped : goal.returns-then-stopped
-returns-then-stopped c =
-    both_stops c.args.n c.args.t c.args.start (resets c.args.t
-    c.args.events.now) (boluses c.args.t
-    c.args.events.now) c.apply_resets-p.ensures (sym
-    c.stopped.ensures ∙ c.if-stopped.true)
+pub returns-in_err-p : goal.returns-in_err-p
+returns-in_err-p c =
+    let g = c.args in
+    let e = err_from_is_err_and c.from_residual.result c.from_residual.ensures.1 in
+    rw (e.1, e.2) (both_stops g.n g.t g.start (resets g.t g.events.now) (boluses g.t g.events.now) c.in_err-p.ensures)
 
 pub returns : goal.returns
 returns c =
-    both_done c.args.n c.args.t c.args.start (resets c.args.t
-    c.args.events.now) (boluses c.args.t
-    c.args.events.now) c.apply_resets-p.ensures (sym
-    c.stopped.ensures ∙ c.if-stopped.false) c.apply_boluses.ensures
+    let g = c.args in
+    both_done g.n g.t g.start (resets g.t g.events.now) (boluses g.t g.events.now) c.in_ok-p.ensures (c.apply_where.ensures (is_bolus g.t) (λ e b s. search rules))

@@ -11,4 +11,4 @@ unfolding boundaries
 returns c =
     let k = c.sorted_unique-kept in
     let e : c.as_mut_slice.result.now ≡ boundary_times c.args.window.start c.args.window.end c.args.events.now = cc in
-    (c.truncate.ensures.items ∙ ap (take k.result) (items-with_items c.lay-bounds.result k.new.a (search rules)) ∙ rw e at k.ensures.1, rw e at k.ensures.2)
+    (c.truncate.ensures.items ∙ ap (take k.result) (items-with_items c.lay.new.bounds k.new.a (search rules)) ∙ rw e at k.ensures.1, rw e at k.ensures.2)

@@ -1,19 +1,19 @@
-use mathlib.Core.Path.{refl}
+-- `events_layout::events_fit` meets its contract.
+use mathlib.Core.Path.{refl, ◌∙◌}
+use Prim.Native.Nat.{◌/◌}
 use native.Mathlib.Omega.{arith}
-use native.Mathlib.Nat.{le_antisymm}
-use native.Mathlib.Numerals.{add-one}
-use Rattle.matrix.specs.Matrix.{all_to}
-use Rattle.events_layout.specs.Layout.{events_fit}
+use borrow.Author.Rules.{rules}
+use Rattle.std.proofs.lemmas.Iterator.{YieldsList-from_range}
+use Rattle.std.proofs.lemmas.Iterator.Search.{all_from_yields_List}
+use Rattle.matrix.proofs.Fronts.{all_range}
+use Rattle.events_layout.specs.Layout.{event_fits, events_fit}
 use Rattle.events_layout.proofs.events_fit.Goals as goal
 
-pub loop-i-init : goal.loop-i-init
-unfolding all_to events_fit
-loop-i-init g c = (omega arith, refl)
-
-pub loop-i-preserved : goal.loop-i-preserved
-unfolding all_to events_fit
-loop-i-preserved g c = (omega arith, rw (add-one, c.event_fits-ok.ensures, c.loop-i.invariant.1))
-
 pub returns : goal.returns
-unfolding all_to events_fit
-returns g c = rw (← c.count-total.ensures, rw (le_antisymm c.loop-i.invariant.0 c.loop-i-test.false) at c.loop-i.invariant.1)
+unfolding events_fit
+returns g c =
+    let p = event_fits (g.W.Words.words c.args.words) in
+    let n = c.count-total.result / 6 in
+    let all = all_from_yields_List p _ _ c.all.result c.all.ensures.ran (YieldsList-from_range 0 n n refl (omega arith)) (λ x b q k. search rules)
+    ∙ all_range p n in
+    rw (← c.count-total.ensures, all)

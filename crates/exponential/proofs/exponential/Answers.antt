@@ -18,7 +18,7 @@ unfolding of_bits
 returns-then-not-all_finite c =
     rw (
       exponential-at scheme _ _ c.norm.ensures (sym c.count_halvings.ensures ∙ ap outcome_of c.in_ok-halvings.was)
-          c.taylor-matrix.ensures c.all_finite.ensures,
+          c.taylor.ensures c.all_finite.ensures,
       c.if-not-all_finite.true,
     )
 
@@ -27,6 +27,6 @@ unfolding of_bits
 returns c =
     rw (
       exponential-at scheme _ _ c.norm.ensures (sym c.count_halvings.ensures ∙ ap outcome_of c.in_ok-halvings.was)
-          c.taylor-matrix.ensures c.all_finite.ensures,
+          c.taylor.ensures c.all_finite.ensures,
       c.if-not-all_finite.false,
     )

@@ -1,19 +1,15 @@
 use mathlib.Core.Path.{refl}
-use native.Mathlib.Omega.{arith}
-use Prim.Native.Nat.{◌-◌}
 use mathlib.Core.List.{[]}
 use Rattle.matrix.specs.Arrays.{updated, updated_from}
-use Rattle.matrix.proofs.Updated.{updated_more, updated-all}
+use Rattle.matrix.proofs.Updated.{updated_more, updated-front}
 use Rattle.exponential_series.proofs.halve.Goals as goal
 
-pub loop-i-init : goal.loop-i-init
+pub loop-row-init : goal.loop-row-init
 unfolding updated updated_from
-loop-i-init c = (omega arith, refl)
+loop-row-init c = refl
 
-pub loop-i-preserved : goal.loop-i-preserved
-unfolding updated updated_from
-loop-i-preserved c = (omega arith, updated_more _ [] _ _ c.loop-i.invariant.1 c.halved.ensures)
+pub loop-row-preserved : goal.loop-row-preserved
+loop-row-preserved c = updated_more _ [] _ _ c.loop-row.invariant c.halved.ensures
 
 pub returns : goal.returns
-unfolding updated updated_from
-returns c = updated-all _ _ _ _ c.loop-i.invariant.0 c.loop-i-test.false c.loop-i.invariant.1
+returns c = updated-front _ _ _ _ c.loop-row-test.false c.loop-row.invariant

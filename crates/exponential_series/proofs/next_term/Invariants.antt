@@ -1,11 +1,7 @@
--- `exponential_series::next_term` meets its contract. The invariant: the first i rows are made.
+-- `exponential_series::next_term` meets its contract. The invariant: the first rows are made.
 use mathlib.Core.Path.{◌≡◌}
-use Prim.Native.Nat.{◌≤◌, ◌-◌}
-use Rattle.matrix.specs.Arrays.{updated, row_quotient, row_times}
+use Rattle.matrix.specs.Arrays.{updated, row_times, row_quotient}
 use Rattle.exponential_series.proofs.next_term.Given as goal
 
-abbrev pub invariant-loop-i : goal.invariant-loop-i
-invariant-loop-i l = (l.i ≤ l.m) × (l.term ≡ updated l.i (λ i r. row_quotient (row_times r l.a l.m) l.x) l.initial.term)
-
-abbrev pub decreases-loop-i : goal.decreases-loop-i
-decreases-loop-i l = l.m - l.i
+abbrev pub invariant-loop-row : goal.invariant-loop-row
+invariant-loop-row l = l.row-items ≡ updated l.row-index (λ i r. row_quotient (row_times r l.a l.m) l.x) l.initial.row-items

@@ -1,6 +1,4 @@
 use native.Mathlib.Omega.{arith}
-use native.Mathlib.Nat.{le_antisymm}
-use Prim.Native.Nat.{◌-◌}
 use Rattle.matrix.specs.Exponential.{series}
 use Rattle.matrix.proofs.Steps.{term-more, sum_more}
 use Rattle.exponential_series.proofs.series.Goals as goal
@@ -12,8 +10,5 @@ loop-k-init c = (omega arith, c.identity-term.ensures, c.identity-term.ensures)
 pub loop-k-preserved : goal.loop-k-preserved
 loop-k-preserved c =
     let l = c.loop-k in
-    let t = term-more c.args.m c.requires l.k c.args.a l.invariant.1 c.next_term.ensures in
+    let t = term-more c.args.m c.requires l.k c.args.a.now l.invariant.1 c.next_term.ensures in
     (omega arith, t, sum_more c.args.m c.requires l.k _ l.invariant.2 t c.add_term.ensures)
-
-pub returns : goal.returns
-returns c = rw (le_antisymm c.loop-k.invariant.0 c.loop-k-test.false) at c.loop-k.invariant.2

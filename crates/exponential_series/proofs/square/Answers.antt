@@ -1,6 +1,5 @@
 use mathlib.Core.Path.{refl}
 use native.Mathlib.Omega.{arith}
-use Prim.Native.Nat.{◌-◌}
 use mathlib.Core.List.{[]}
 use Rattle.matrix.specs.Arrays.{updated, updated_from}
 use Rattle.matrix.proofs.Updated.{updated_more, updated-all}

@@ -8,7 +8,7 @@ use Rattle.matrix.specs.Exponential.{squarings}
 use Rattle.exponential_series.proofs.squared.Given as goal
 
 abbrev pub invariant-loop-k : goal.invariant-loop-k
-invariant-loop-k l = (l.k ≤ l.pairs) × Holds l.m l.r (squarings l.m (l.count % 2 + (l.k + l.k)) (lead l.m l.initial.next)) × (length l.next ≡ block)
+invariant-loop-k l = (l.k ≤ l.pairs) × Holds l.m l.p (squarings l.m (l.count % 2 + (l.k + l.k)) (lead l.m l.fn.p)) × (length l.next ≡ block)
 
 abbrev pub decreases-loop-k : goal.decreases-loop-k
 decreases-loop-k l = l.pairs - l.k

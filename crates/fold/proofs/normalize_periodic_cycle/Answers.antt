@@ -6,18 +6,18 @@ use Rattle.fold.specs.Entry.{fold_entry}
 use Rattle.fold.proofs.Tests.{entry_folds}
 use Rattle.fold.proofs.normalize_periodic_cycle.Goals as goal
 
-pub returns-then-events-gt-CYCLE_EVENTS : goal.returns-then-events-gt-CYCLE_EVENTS
+pub returns-then-events-gt-CYCLE_EVENTS-clause-folded : goal.returns-then-events-gt-CYCLE_EVENTS-clause-folded
 unfolding fold_entry
-returns-then-events-gt-CYCLE_EVENTS c = rw (lt-leb _ _ c.if-events-gt-CYCLE_EVENTS.true)
+returns-then-events-gt-CYCLE_EVENTS-clause-folded c = rw (lt-leb _ _ c.if-events-gt-CYCLE_EVENTS.true)
 
-pub returns-then-samples-gt-SAMPLES : goal.returns-then-samples-gt-SAMPLES
+pub returns-then-samples-gt-SAMPLES-clause-folded : goal.returns-then-samples-gt-SAMPLES-clause-folded
 unfolding fold_entry
-returns-then-samples-gt-SAMPLES c =
+returns-then-samples-gt-SAMPLES-clause-folded c =
     rw (le-leb _ _ c.if-events-gt-CYCLE_EVENTS.false, lt-leb _ _ c.if-samples-gt-SAMPLES.true)
 
-pub returns-in_err-check : goal.returns-in_err-check
+pub returns-in_err-check-clause-folded : goal.returns-in_err-check-clause-folded
 unfolding fold_entry
-returns-in_err-check c =
+returns-in_err-check-clause-folded c =
     let p = err_from_is_err_and c.from_residual.result c.from_residual.ensures.1 in
     rw (
       p.1,
@@ -27,7 +27,7 @@ returns-in_err-check c =
       ← c.in_err-check.ensures,
     )
 
-pub returns : goal.returns
-returns c =
-    c.folded.ensures
+pub returns-clause-folded : goal.returns-clause-folded
+returns-clause-folded c =
+    c.folded.ensures.folded
     ∙ entry_folds _ _ _ _ c.if-events-gt-CYCLE_EVENTS.false c.if-samples-gt-SAMPLES.false c.in_ok-check.ensures c.state_count.ensures.0

@@ -1,17 +1,20 @@
-use mathlib.Core.Path.{refl}
-use native.Mathlib.Omega.{arith}
-use Prim.Native.Nat.{◌-◌}
-use lib.Ieee.{of_bits}
+-- `linear_pk_values::concentration_list` meets its contract.
+use mathlib.Core.Bool.{cond}
+use Prim.Native.Nat.{ℕ}
+use borrow.Author.Rules.{rules}
+use borrow.Author.Tests.{lt-ltb}
+use lib.Dec.{ltb}
+use lib.Ieee.{Float}
+use Rattle.limits.specs.Limits.{most_volumes}
+use Rattle.binary64.specs.Doubles.{plus_zero}
 use Rattle.linear_pk_values.specs.Concentrations.{concentration}
-use Rattle.matrix.proofs.Filled.{fill, fill_from, fill_more, part_filled}
+use Rattle.matrix.proofs.Filled.{tabulate-front}
+use Rattle.matrix.proofs.Made.{made}
 use Rattle.linear_pk_values.proofs.concentration_list.Goals as goal
 
-pub loop-i-preserved : goal.loop-i-preserved
-loop-i-preserved c = (omega arith, fill_more _ _ _ _ c.loop-i.invariant.1 c.concentration.ensures (omega arith))
-
 pub returns : goal.returns
-returns c = part_filled _ _ _ _ _ c.loop-i.invariant.0 c.loop-i-test.false c.requires.0 c.loop-i.invariant.1
-
-pub loop-i-init : goal.loop-i-init
-unfolding fill fill_from of_bits
-loop-i-init c = (omega arith, refl)
+returns c =
+    let s = c.args in
+    let f : ℕ → Float = λ i. cond (ltb i s.count) (concentration s.depot s.volumes s.amounts.now i) plus_zero in
+    tabulate-front f _ most_volumes s.count c.requires.0 (made most_volumes (λ i y q l e. search rules) c.from_fn.ensures.items)
+    (λ i l. rw (lt-ltb i s.count l))

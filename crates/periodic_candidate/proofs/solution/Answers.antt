@@ -1,10 +1,13 @@
 -- `periodic_candidate::solution` meets its contract.
 use mathlib.Core.Path.{ap, ◌∙◌}
 use lib.Ieee.{of_bits}
+use Rattle.std.proofs.lemmas.List.{take-replicate}
 use Rattle.std.proofs.lemmas.Result.{err_from_is_err_and}
+use Rattle.limits.specs.Limits.{states}
+use Rattle.binary64.specs.Doubles.{plus_zero}
 use Rattle.simulation.specs.KernelRun.{propagator_of}
 use Rattle.cycle.specs.Closed.{untimed}
-use Rattle.periodic_candidate.proofs.Chain.{zero_front, solution-stops, columns-stop, solution-solves}
+use Rattle.periodic_candidate.proofs.Chain.{solution-stops, columns-stop, solution-solves}
 use Rattle.periodic_candidate.proofs.solution.Goals as goal
 
 pub returns-in_err-offset : goal.returns-in_err-offset
@@ -14,7 +17,7 @@ returns-in_err-offset c =
     let p = err_from_is_err_and c.from_residual.result c.from_residual.ensures.1 in
     rw (p.1, p.2)
     (solution-stops (propagator_of s.kernel) s.n s.window s.events.now
-    (rw (zero_front (propagator_of s.kernel) s.n s.window s.events.now s.runs.states) at c.in_err-offset.ensures))
+    (rw (take-replicate s.n states plus_zero s.runs.states) at c.in_err-offset.ensures))
 
 pub returns-in_err-columns : goal.returns-in_err-columns
 unfolding of_bits
@@ -23,7 +26,7 @@ returns-in_err-columns c =
     let p = err_from_is_err_and c.from_residual-in_err-columns.result c.from_residual-in_err-columns.ensures.1 in
     rw (p.1, p.2)
     (columns-stop (propagator_of s.kernel) s.n s.window s.events.now
-    (rw (zero_front (propagator_of s.kernel) s.n s.window s.events.now s.runs.states) at c.in_ok-offset.ensures)
+    (rw (take-replicate s.n states plus_zero s.runs.states) at c.in_ok-offset.ensures)
     c.in_err-columns.ensures)
 
 pub returns-in_err-eliminated : goal.returns-in_err-eliminated
@@ -34,7 +37,7 @@ returns-in_err-eliminated c =
     rw (p.1, p.2)
     (ap untimed c.in_err-eliminated.ensures
     ∙ solution-solves (propagator_of s.kernel) s.n s.window s.events.now
-    (rw (zero_front (propagator_of s.kernel) s.n s.window s.events.now s.runs.states) at c.in_ok-offset.ensures)
+    (rw (take-replicate s.n states plus_zero s.runs.states) at c.in_ok-offset.ensures)
     c.in_ok-columns.ensures)
 
 pub returns : goal.returns
@@ -43,5 +46,5 @@ returns c =
     let s = c.args.cycle.now in
     ap untimed c.in_ok-eliminated.ensures
     ∙ solution-solves (propagator_of s.kernel) s.n s.window s.events.now
-    (rw (zero_front (propagator_of s.kernel) s.n s.window s.events.now s.runs.states) at c.in_ok-offset.ensures)
+    (rw (take-replicate s.n states plus_zero s.runs.states) at c.in_ok-offset.ensures)
     c.in_ok-columns.ensures

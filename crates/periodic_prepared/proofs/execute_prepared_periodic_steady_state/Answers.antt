@@ -1,6 +1,7 @@
 -- `periodic_prepared::execute_prepared_periodic_steady_state` meets its contract.
 use mathlib.Core.Path.{◌≡◌}
 use mathlib.Core.Bool.{true, ◌&&◌}
+use borrow.Author.Rules.{rules}
 use borrow.Author.Tests.{lt-leb, le-leb}
 use lib.Dec.{leb}
 use lib.ListN.{length, take}
@@ -76,4 +77,4 @@ returns c =
     }) g.amounts.now g.residual.now
     (candidate_some (propagator_of s.kernel) s.n s.window g.tolerance s.events.now room
     c.in_ok-candidate.ensures c.in_ok-acceptance.ensures)
-    c.lay.ensures c.lay-2.ensures
+    (search rules) (search rules)

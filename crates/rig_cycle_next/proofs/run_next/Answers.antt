@@ -1,6 +1,5 @@
 -- `rig_cycle_next::run_next` meets its contract.
-use mathlib.Core.Path.{◌≡◌, sym, ap, ◌∙◌}
-use mathlib.Core.List.{List}
+use mathlib.Core.Path.{◌≡◌, sym, ◌∙◌}
 use native.Mathlib.Omega.{arith}
 use Prim.Native.Nat.{◌≤◌}
 use lib.ListN.{length}
@@ -12,8 +11,8 @@ use Rattle.rig_cycle_next.proofs.Next.{holds, entry_is, run_goes, run_ends}
 use Rattle.limits.specs.Limits.{most_cycle_events, most_samples}
 use Rattle.rig_cycle_next.proofs.run_next.Goals as goal
 
-pub unwrap-folded-requires : goal.unwrap-folded-requires
-unwrap-folded-requires c =
+pub unwrap-requires : goal.unwrap-requires
+unwrap-requires c =
     let g = c.args in
     let ws = words_of g.window.now in
     let ss = words_of g.samples.now in
@@ -23,7 +22,7 @@ unwrap-folded-requires c =
     let l : length g.readings.now ≤ most_samples = omega (arith, c.requires.1.samples, c.requires.2) in
     let a : SteadyState = record { amounts = g.amounts.now; residuals = g.residual.now; maximum = c.requires.3.maximum } in
     let v = c.as_slice.ensures.value ∙ c.events_of-list.ensures in
-    holds _ _ (c.normalize_periodic_cycle.ensures ∙ entry_is g.kernel ws ss es c.requires.0 few a c.requires.3.solved c.doubles.ensures v
+    holds _ _ (c.normalize_periodic_cycle.ensures.folded ∙ entry_is g.kernel ws ss es c.requires.0 few a c.requires.3.solved c.doubles.ensures v
     c.window_of-span.ensures m l)
 
 pub simulate_cycle-requires : goal.simulate_cycle-requires
@@ -37,7 +36,7 @@ simulate_cycle-requires c =
     let l : length g.readings.now ≤ most_samples = omega (arith, c.requires.1.samples, c.requires.2) in
     let a : SteadyState = record { amounts = g.amounts.now; residuals = g.residual.now; maximum = c.requires.3.maximum } in
     let v = c.as_slice.ensures.value ∙ c.events_of-list.ensures in
-    let x = rw c.unwrap-folded.ensures at c.normalize_periodic_cycle.ensures in (
+    let x = rw c.unwrap.ensures at c.normalize_periodic_cycle.ensures.folded in (
       rw c.as_slice-2.ensures.value (run_goes g.kernel ws ss es c.requires.0 few a c.requires.3.solved c.doubles.ensures v
           c.window_of-span.ensures m l x),
       c.requires.4,
@@ -56,7 +55,7 @@ returns c =
     let l : length g.readings.now ≤ most_samples = omega (arith, c.requires.1.samples, c.requires.2) in
     let a : SteadyState = record { amounts = g.amounts.now; residuals = g.residual.now; maximum = c.requires.3.maximum } in
     let v = c.as_slice.ensures.value ∙ c.events_of-list.ensures in
-    let x = rw c.unwrap-folded.ensures at c.normalize_periodic_cycle.ensures in
+    let x = rw c.unwrap.ensures at c.normalize_periodic_cycle.ensures.folded in
     let y = c.simulate_cycle.ensures in (
       y.0,
       run_ends g.kernel ws ss es c.requires.0 few a c.requires.3.solved c.doubles.ensures v

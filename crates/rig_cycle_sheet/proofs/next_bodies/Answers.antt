@@ -5,7 +5,7 @@ use lib.Seq.{length-take-le}
 use Rattle.rig_cycle_sheet.proofs.next_bodies.Goals as goal
 
 pub slice_bounds-next_cells-end : goal.slice_bounds-next_cells-end
-slice_bounds-next_cells-end c = sym (length-take-le _ _ (omega (arith, c.requires.1.samples, c.sample_cells-readings.ensures)))
+slice_bounds-next_cells-end c = sym (length-take-le _ _ (omega (arith, c.requires.1.samples, c.cells-readings.ensures)))
 
 pub slice_bounds-amounts-end : goal.slice_bounds-amounts-end
 slice_bounds-amounts-end c = c.state_count-n.ensures.1
@@ -25,7 +25,7 @@ next_cells-requires c =
     let n = c.state_count-n.ensures in (
       h.0,
       h.1,
-      length-take-le _ _ (omega (arith, h.1.samples, c.sample_cells-readings.ensures)),
+      length-take-le _ _ (omega (arith, h.1.samples, c.cells-readings.ensures)),
       length-take-le _ _ n.1 ∙ n.0,
       length-take-le _ _ n.1 ∙ n.0,
       omega (arith, c.time_cells-times.ensures),

@@ -1,12 +1,12 @@
 -- `rig_cycle_sheet::next_cells` meets its contract.
 use mathlib.Core.Path.{◌≡◌, refl, ◌∙◌}
 use native.Mathlib.Omega.{arith}
-use mathlib.Core.List.{[]}
 use Rattle.linear_pk.specs.LinearPk.{state_count}
 use Rattle.sheet.specs.Sheet.{words_of}
 use Rattle.rig_steady_cycle.specs.SheetCycle.{steady_with}
 use Rattle.rig_steady_cycle.proofs.Kept.{steady_kept}
-use Rattle.rig_cycle_sheet.proofs.Refusals.{refused_prints, next-stops, answer-refused, answer-solved}
+use Rattle.printout.proofs.Replies.{prints_same}
+use Rattle.rig_cycle_sheet.proofs.Refusals.{refused-printout, next-stops, answer-refused, answer-solved}
 use Rattle.refusal.specs.Numbers.{refusal_number}
 use Rattle.refusal.specs.declared.Refusal.{Refusal}
 use Rattle.refusal.proofs.Numbers.{refusal-number}
@@ -29,8 +29,6 @@ returns-in-Err c =
     let g = c.args in
     let k = steady_kept g.kernel (words_of g.window.now) (words_of g.samples.now) (words_of g.events.now) c.requires.0 in
     let o = steady_with g.kernel (words_of g.window.now) (words_of g.samples.now) (words_of g.events.now) in
-    let m = c.number-number.ensures in
     let h = (λ (z : refusal_number c.in-Err.stop.refusal ≡ 0). no-zero c.in-Err.stop.refusal z) in
     let q = answer-refused (state_count g.kernel) o k (rw c.in-Err.is at c.solve_bodies-solved.ensures) h in
-    refused_prints (next-stops g.kernel (words_of g.window.now) (words_of g.samples.now) (words_of g.events.now) q)
-    h _ [] [] c.reply_of.ensures.0 c.reply_of.ensures.1 (rw m at c.print_steady-length.ensures.value) (rw m at c.print_steady-length.ensures.out_after)
+    prints_same (refused-printout (next-stops g.kernel (words_of g.window.now) (words_of g.samples.now) (words_of g.events.now) q)) c.print_refused.ensures

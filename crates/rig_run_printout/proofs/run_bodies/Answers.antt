@@ -12,8 +12,8 @@ use Rattle.rig_run_sheet.proofs.Amounts.{cells-most, known_five}
 use Rattle.rig_run_sheet.proofs.Words.{reckoned-words}
 use Rattle.rig_run_printout.proofs.run_bodies.Goals as goal
 
-pub overflow_mul-cells : goal.overflow_mul-cells
-overflow_mul-cells c =
+pub overflow_mul-held : goal.overflow_mul-held
+overflow_mul-held c =
     let h = c.requires in
     omega (
       arith,
@@ -28,10 +28,10 @@ pub slice_bounds-run_cells-end : goal.slice_bounds-run_cells-end
 slice_bounds-run_cells-end c = sym (length-take-le _ _ (omega (arith, known_five (length c.args.amounts.now / 8), c.known-first.ensures)))
 
 pub slice_bounds-run_cells-end-2 : goal.slice_bounds-run_cells-end-2
-slice_bounds-run_cells-end-2 c = sym (length-take-le _ _ (omega (arith, c.requires.samples, c.sample_cells-readings.ensures)))
+slice_bounds-run_cells-end-2 c = sym (length-take-le _ _ (omega (arith, c.requires.samples, c.cells-readings.ensures)))
 
 pub slice_bounds-run_cells-end-3 : goal.slice_bounds-run_cells-end-3
-slice_bounds-run_cells-end-3 c = sym (length-take-le _ _ (omega (arith, c.requires.samples, c.requires.events, c.time_cells-times.ensures)))
+slice_bounds-run_cells-end-3 c = sym (length-take-le _ _ (omega (arith, c.requires.samples, c.requires.events, c.cells-times.ensures)))
 
 pub slice_bounds-run_cells-end-4 : goal.slice_bounds-run_cells-end-4
 slice_bounds-run_cells-end-4 c = sym (length-take-le _ _ (omega (arith, c.requires.samples, c.requires.events, c.side_cells-sides.ensures)))
@@ -50,7 +50,7 @@ slice_bounds-run_cells-end-5 c =
     let h = c.requires in
     let m = cells-most (4 * (length c.args.events.now / event_bytes) + length c.args.samples.now / 8 + 2)
     c.state_count.result (omega (arith, h.samples, h.events)) c.state_count.ensures.1 in
-    sym (length-take-le _ _ (omega (arith, m, c.value_cells-values.ensures)))
+    sym (length-take-le _ _ (omega (arith, m, c.cells-values.ensures)))
 
 pub run_cells-requires : goal.run_cells-requires
 run_cells-requires c =
@@ -63,8 +63,8 @@ run_cells-requires c =
     let same : rows ≡ reckoned_of (words_of ss) (words_of es) = omega (arith, words-length ss, words-length es, reckoned-words (words_of ss) (words_of es)) in (
       h,
       length-take-le _ _ (omega (arith, known_five (length c.args.amounts.now / 8), c.known-first.ensures)) ∙ c.known-first.ensures,
-      length-take-le _ _ (omega (arith, h.samples, c.sample_cells-readings.ensures)),
-      length-take-le _ _ (omega (arith, few, c.time_cells-times.ensures)) ∙ same,
+      length-take-le _ _ (omega (arith, h.samples, c.cells-readings.ensures)),
+      length-take-le _ _ (omega (arith, few, c.cells-times.ensures)) ∙ same,
       length-take-le _ _ (omega (arith, few, c.side_cells-sides.ensures)) ∙ same,
-      length-take-le _ _ (omega (arith, cells-most rows n.result few n.ensures.1, c.value_cells-values.ensures)) ∙ ap₂ ◌*◌ same n.ensures.0,
+      length-take-le _ _ (omega (arith, cells-most rows n.result few n.ensures.1, c.cells-values.ensures)) ∙ ap₂ ◌*◌ same n.ensures.0,
     )

@@ -5,7 +5,7 @@ use lib.Seq.{length-take-le}
 use Rattle.rig_steady_cycle.proofs.steady_bodies.Goals as goal
 
 pub slice_bounds-steady_cells-end : goal.slice_bounds-steady_cells-end
-slice_bounds-steady_cells-end c = sym (length-take-le _ _ (omega (arith, c.requires.1.samples, c.sample_cells-readings.ensures)))
+slice_bounds-steady_cells-end c = sym (length-take-le _ _ (omega (arith, c.requires.1.samples, c.cells-readings.ensures)))
 
 pub slice_bounds-steady_cells-end-3 : goal.slice_bounds-steady_cells-end-3
 slice_bounds-steady_cells-end-3 c = sym (length-take-le _ _ c.state_count-n.ensures.1)
@@ -16,7 +16,7 @@ steady_cells-requires c =
     let n = c.state_count-n.ensures in (
       h.0,
       h.1,
-      length-take-le _ _ (omega (arith, h.1.samples, c.sample_cells-readings.ensures)),
+      length-take-le _ _ (omega (arith, h.1.samples, c.cells-readings.ensures)),
       length-take-le _ _ n.1 ∙ n.0,
       length-take-le _ _ n.1 ∙ n.0,
     )

@@ -1,5 +1,5 @@
 -- `simulation::simulate` meets its contract.
-use mathlib.Core.Path.{◌≡◌, refl, sym, ap}
+use mathlib.Core.Path.{◌≡◌, refl, sym}
 use mathlib.Core.Bool.{false, ◌&&◌}
 use lib.Dec.{leb}
 use Rattle.limits.specs.Limits.{most_events, most_samples}
@@ -8,7 +8,7 @@ use lib.ListN.{length}
 use Rattle.linear_pk.specs.LinearPk.{state_count}
 use Rattle.protocol.specs.Prepare.{reckoned}
 use Rattle.simulation_report.specs.Replies.{room}
-use Rattle.refusal.specs.Numbers.{reply_number}
+use Rattle.std.proofs.lemmas.Result.{err_from_is_err_and}
 use Rattle.refusal.specs.declared.Refusal.TheVariants as R
 use Rattle.simulation.proofs.Ahead.{refuses, over-limit, bind-refused, bind_takes, code_passes, code_refuses, code_runs}
 use Rattle.simulation.proofs.simulate.Goals as goal
@@ -30,36 +30,42 @@ returns-then-events-gt-EVENTS c =
 pub run_prepared-requires : goal.run_prepared-requires
 run_prepared-requires c =
     let g = c.args in
-    let t = bind_takes g.kernel g.amounts.now c.in-Ok.ensures in
-    let q = c.state_count-n.ensures in
+    let t = bind_takes g.kernel g.amounts.now c.in_ok-start.ensures in
+    let q = c.state_count.ensures in
     code_passes g.kernel g.amounts.now g.window g.events.now g.samples.now
     (room (length g.times.now) (length g.sides.now) (length g.values.now)) (le-leb _ _ c.if-events-gt-EVENTS.false)
-    (le-leb _ _ c.if-samples-gt-SAMPLES.false) t q.0 refl c.admitted-reply.ensures
-    (ap reply_number c.in-Ok-reply.is) q.1
+    (le-leb _ _ c.if-samples-gt-SAMPLES.false) t q.0 refl c.in_ok-admitted.ensures refl q.1
 
-pub returns-in-Err : goal.returns-in-Err
-returns-in-Err c =
-    let g = c.args in let w = refuses c.in-Err.refusal (reckoned g.samples.now g.events.now) (state_count g.kernel)
+pub returns-in_err-start : goal.returns-in_err-start
+returns-in_err-start c =
+    let g = c.args in
+    let e = err_from_is_err_and c.from_residual.result c.from_residual.ensures.1 in
+    let w = refuses c.in_err-start.field-0.0 (reckoned g.samples.now g.events.now) (state_count g.kernel)
     g.times.now g.sides.now g.values.now (bind-refused g.kernel g.amounts.now g.window g.events.now
     g.samples.now (room (length g.times.now) (length g.sides.now) (length g.values.now))
-    (le-leb _ _ c.if-events-gt-EVENTS.false) (le-leb _ _ c.if-samples-gt-SAMPLES.false) _ (sym c.in-Err.ensures)) in record { result_value = w.0; times_after = w.1.0; sides_after = w.1.1.0; values_after = w.1.1.1 }
+    (le-leb _ _ c.if-events-gt-EVENTS.false) (le-leb _ _ c.if-samples-gt-SAMPLES.false) _ (sym c.in_err-start.ensures)) in
+    rw (e.1, e.2) (record { result_value = w.0; times_after = w.1.0; sides_after = w.1.1.0; values_after = w.1.1.1 })
 
-pub returns-in-Err-reply : goal.returns-in-Err-reply
-returns-in-Err-reply c =
+pub returns-in_err-admitted : goal.returns-in_err-admitted
+returns-in_err-admitted c =
     let g = c.args in
-    let t = bind_takes g.kernel g.amounts.now c.in-Ok.ensures in let w = refuses c.in-Err-reply.refusal (reckoned g.samples.now g.events.now) (state_count g.kernel)
+    let t = bind_takes g.kernel g.amounts.now c.in_ok-start.ensures in
+    let e = err_from_is_err_and c.from_residual-in_err-admitted.result c.from_residual-in_err-admitted.ensures.1 in
+    let w = refuses c.in_err-admitted.field-0.0 (reckoned g.samples.now g.events.now) (state_count g.kernel)
     g.times.now g.sides.now g.values.now (code_refuses g.kernel g.amounts.now g.window g.events.now
     g.samples.now (room (length g.times.now) (length g.sides.now) (length g.values.now))
-    (le-leb _ _ c.if-events-gt-EVENTS.false) (le-leb _ _ c.if-samples-gt-SAMPLES.false) t c.state_count-n.ensures.0
-    refl c.admitted-reply.ensures c.in-Err-reply.refusal
-    (ap reply_number c.in-Err-reply.is)) in record { result_value = w.0; times_after = w.1.0; sides_after = w.1.1.0; values_after = w.1.1.1 }
+    (le-leb _ _ c.if-events-gt-EVENTS.false) (le-leb _ _ c.if-samples-gt-SAMPLES.false) t c.state_count.ensures.0
+    refl c.in_err-admitted.ensures c.in_err-admitted.field-0.0 refl) in
+    rw (e.1, e.2) (record { result_value = w.0; times_after = w.1.0; sides_after = w.1.1.0; values_after = w.1.1.1 })
 
-pub returns-in-Ok-reply : goal.returns-in-Ok-reply
-returns-in-Ok-reply c =
+pub returns : goal.returns
+returns c =
     let g = c.args in
-    let t = bind_takes g.kernel g.amounts.now c.in-Ok.ensures in
-    let q = c.state_count-n.ensures in let w = code_runs g.kernel g.amounts.now g.window g.events.now g.samples.now
+    let t = bind_takes g.kernel g.amounts.now c.in_ok-start.ensures in
+    let q = c.state_count.ensures in
+    let r = c.run_prepared.ensures in
+    let w = code_runs g.kernel g.amounts.now g.window g.events.now g.samples.now
     (room (length g.times.now) (length g.sides.now) (length g.values.now)) (le-leb _ _ c.if-events-gt-EVENTS.false)
-    (le-leb _ _ c.if-samples-gt-SAMPLES.false) t q.0 refl c.admitted-reply.ensures
-    (ap reply_number c.in-Ok-reply.is) q.1 g.times.now g.sides.now g.values.now
-    (c.run_prepared.ensures.result_value, (c.run_prepared.ensures.times_after, (c.run_prepared.ensures.sides_after, c.run_prepared.ensures.values_after))) in record { result_value = w.0; times_after = w.1.0; sides_after = w.1.1.0; values_after = w.1.1.1 }
+    (le-leb _ _ c.if-samples-gt-SAMPLES.false) t q.0 refl c.in_ok-admitted.ensures refl q.1 g.times.now g.sides.now g.values.now
+    (r.result_value, (r.times_after, (r.sides_after, r.values_after))) in
+    record { result_value = w.0; times_after = w.1.0; sides_after = w.1.1.0; values_after = w.1.1.1 }

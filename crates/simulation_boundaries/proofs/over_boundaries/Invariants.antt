@@ -2,11 +2,11 @@
 use mathlib.Core.Path.{◌≡◌}
 use Prim.Native.Nat.{◌≤◌}
 use lib.ListN.{length}
-use Rattle.rows.specs.Written.{cells}
+use Rattle.rows.specs.Lent.{cells_of, SameSlices}
 use Rattle.rows.specs.Standing.{kernel_advance}
 use Rattle.simulation_boundaries.proofs.Boundaries.{Going}
 use Rattle.simulation_boundaries.proofs.over_boundaries.Given as goal
 
 abbrev pub invariant-loop-b : goal.invariant-loop-b
-invariant-loop-b l = Going (kernel_advance l.kernel l.n) l.n l.events l.samples l.bounds l.initial.p (cells l.initial.times l.initial.sides l.initial.values) l.marks l.p
-    (cells l.times l.sides l.values) l.b × (l.b ≤ l.last) × (length l.marks ≡ length l.events)
+invariant-loop-b l = Going (kernel_advance l.kernel l.n) l.n l.events l.samples l.bounds l.initial.p (cells_of l.initial.rows) l.marks l.p
+    (cells_of l.rows) l.b × (l.b ≤ l.last) × (length l.marks ≡ length l.events) × SameSlices l.initial.rows l.rows

@@ -3,7 +3,7 @@ use mathlib.Core.Path.{◌≡◌}
 use lib.Ieee.{of_bits}
 use Rattle.protocol.specs.Schedule.{schedule}
 use Rattle.protocol.specs.Events.{boundaries, sorted_unique}
-use Rattle.rows.specs.Written.{cells}
+use Rattle.rows.specs.Lent.{cells_of}
 use Rattle.simulation_matrix.proofs.Whole.{prepared_of, some_boundary, schedule_fits}
 use Rattle.simulation_matrix.proofs.on_schedule.Goals as goal
 
@@ -14,21 +14,26 @@ over_boundaries-requires c =
     let es = g.events.now in
     let b : c.as_slice.result.now ≡ boundaries g.window es = cc in
     let d : c.as_slice-2.result.now ≡ sorted_unique g.samples.now = cc in
-    let p = prepared_of g.n g.window g.samples.now es c.distinct-readings.ensures.1 c.boundaries-bounds.ensures.1 c.requires.3 in (
+    let p = prepared_of g.n g.window g.samples.now es c.distinct.ensures.1 c.boundaries.ensures.1 c.requires.3 in (
       c.requires.1,
       rw b (some_boundary g.window es),
       rw (
         b,
         d,
-      ) (schedule_fits g.n g.window g.samples.now es g.initial (cells g.times.now g.sides.now g.values.now)
+      ) (schedule_fits g.n g.window g.samples.now es g.initial (cells_of g.rows.now)
           c.requires.0 c.requires.1 c.requires.2 p c.requires.4),
     )
 
-pub returns : goal.returns
+pub returns-clause-prepared : goal.returns-clause-prepared
+returns-clause-prepared c =
+    let g = c.args in
+    prepared_of g.n g.window g.samples.now g.events.now c.distinct.ensures.1 c.boundaries.ensures.1 c.requires.3
+
+pub returns-clause-ran : goal.returns-clause-ran
 unfolding schedule of_bits
-returns c =
+returns-clause-ran c =
     let g = c.args in
     let es = g.events.now in
     let b : c.as_slice.result.now ≡ boundaries g.window es = cc in
     let d : c.as_slice-2.result.now ≡ sorted_unique g.samples.now = cc in
-    (prepared_of g.n g.window g.samples.now es c.distinct-readings.ensures.1 c.boundaries-bounds.ensures.1 c.requires.3, rw (b, d) at c.over_boundaries.ensures)
+    rw (b, d) at c.over_boundaries.ensures.ran

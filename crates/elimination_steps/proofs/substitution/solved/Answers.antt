@@ -1,9 +1,8 @@
 use native.Mathlib.Omega.{arith}
 use native.Mathlib.Nat.{le_antisymm}
-use Prim.Native.Nat.{◌-◌}
 use lib.Ieee.{of_bits}
 use Rattle.cycle.specs.Elimination.{solve_to}
-use Rattle.matrix.proofs.Filled.{take-replicate}
+use Rattle.std.proofs.lemmas.List.{take-replicate}
 use Rattle.elimination_steps.proofs.Substitutions.{solved-more}
 use Rattle.elimination_steps.proofs.substitution.solved.Goals as goal
 

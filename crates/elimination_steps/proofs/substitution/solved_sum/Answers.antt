@@ -1,7 +1,6 @@
 use mathlib.Core.Path.{refl}
 use native.Mathlib.Omega.{arith}
 use native.Mathlib.Nat.{le_antisymm}
-use Prim.Native.Nat.{◌-◌}
 use lib.Ieee.{of_bits, neg}
 use Rattle.matrix.specs.Matrix.{sum_to}
 use Rattle.cycle.specs.Elimination.{solved_sum}

@@ -6,7 +6,7 @@ use Rattle.events_at.proofs.marks.mark.Goals as goal
 use Rattle.events_at.proofs.marks.mark.Goals.{then-stops_at, else-stops_at}
 
 pub loop-event-init : goal.loop-event-init
-loop-event-init c = behind-start c.args.t c.args.events.now c.args.marks.now c.requires
+loop-event-init c = behind-start c.args.t c.args.events.now c.args.marks.now
 
 pub loop-event-preserved : goal.loop-event-preserved
 loop-event-preserved c =

@@ -10,4 +10,4 @@ loop-i-preserved c = marked_more _ _ _ _ _ _ c.loop-i-test.true c.requires c.run
 pub returns : goal.returns
 returns c =
     let e : c.loop-i.i ≡ length c.args.events.now = omega arith in
-    c.loop-i.invariant ∙ rw e (marked_all _ _ _ _ c.requires)
+    c.loop-i.invariant ∙ rw e (marked_all _ _ _ _)

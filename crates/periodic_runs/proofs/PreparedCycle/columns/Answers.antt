@@ -17,7 +17,7 @@ loop-j-init c = (refl, refl)
 pub invariant_of-unit_runs : goal.invariant_of-unit_runs
 invariant_of-unit_runs c =
     let s = c.args.self.now in
-    record { runs = rw (c.deref.ensures.0, c.homogeneous-zeroed.ensures) (zeroed_runs s.kernel s.n s.window s.events.now s.runs) }
+    record { runs = rw (c.deref.ensures.0, c.homogeneous.ensures) (zeroed_runs s.kernel s.n s.window s.events.now s.runs) }
 
 pub returns-in_err-columns : goal.returns-in_err-columns
 returns-in_err-columns c =
@@ -28,7 +28,7 @@ returns-in_err-columns c =
     (columns-stop (propagator_of s.kernel) s.n s.window s.events.now c.loop-j.columns c.loop-j.j c.loop-j.invariant.1 l
     (rw (
       c.deref.ensures.0,
-      c.homogeneous-zeroed.ensures,
+      c.homogeneous.ensures,
       c.unit.ensures,
       unit_front s.n c.loop-j.j s.runs.states l,
     ) at c.in_err-columns.ensures))
@@ -42,7 +42,7 @@ loop-j-preserved c =
           c.in_ok-columns.field-0 (omega (arith, s.runs.states))
           (rw (
             c.deref.ensures.0,
-            c.homogeneous-zeroed.ensures,
+            c.homogeneous.ensures,
             c.unit.ensures,
             unit_front s.n c.loop-j.j s.runs.states l,
           ) at c.in_ok-columns.ensures),

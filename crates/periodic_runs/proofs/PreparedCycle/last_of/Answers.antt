@@ -1,17 +1,19 @@
 -- `periodic_runs::PreparedCycle::last_of` meets its contract.
+use Rattle.std.proofs.lemmas.Result.{err_from_is_err_and}
 use Rattle.periodic_runs.proofs.Inner.{inner}
 use Rattle.periodic_runs.proofs.PreparedCycle.last_of.Goals as goal
 
-pub returns-in-Ok : goal.returns-in-Ok
-returns-in-Ok c =
+pub returns-in_err-end : goal.returns-in_err-end
+returns-in_err-end c =
     let g = c.args in
     let s = g.self.now in
-    let r = c.on_schedule-end.ensures in
-    rw c.in-Ok.is at (inner s.kernel s.n s.window s.events.now g.initial s.runs c.divided.ensures r.0 r.1)
+    let r = c.in_err-end.ensures in
+    let e = err_from_is_err_and c.from_residual.result c.from_residual.ensures.1 in
+    rw (e.1, e.2) (inner s.kernel s.n s.window s.events.now g.initial s.runs c.divided.ensures r.prepared r.ran)
 
-pub returns-in-Err : goal.returns-in-Err
-returns-in-Err c =
+pub returns : goal.returns
+returns c =
     let g = c.args in
     let s = g.self.now in
-    let r = c.on_schedule-end.ensures in
-    rw c.in-Err.is at (inner s.kernel s.n s.window s.events.now g.initial s.runs c.divided.ensures r.0 r.1)
+    let r = c.in_ok-end.ensures in
+    inner s.kernel s.n s.window s.events.now g.initial s.runs c.divided.ensures r.prepared r.ran

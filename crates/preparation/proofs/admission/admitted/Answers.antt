@@ -1,9 +1,7 @@
 -- `preparation::admission::admitted` meets its contract.
 use native.Mathlib.Omega.{arith}
-use Prim.Native.Nat.{◌+◌, ◌*◌}
 use native.Mathlib.Nat.{mul-le-mul_left}
 use mathlib.Core.List.{[], ◌∷◌}
-use lib.ListN.{length}
 use Rattle.protocol.specs.First.{unless}
 use Rattle.protocol.specs.Prepare.{reckoned, prepare}
 use Rattle.protocol.specs.Entry.{room_for}
@@ -13,8 +11,8 @@ use Rattle.refusal.proofs.Numbers.{refusal-number}
 use Rattle.preparation.proofs.Tests.{first_refused, prepare-passes}
 use Rattle.preparation.proofs.admission.admitted.Goals as goal
 
-pub overflow_mul-rows-2 : goal.overflow_mul-rows-2
-overflow_mul-rows-2 c = omega (arith, mul-le-mul_left (4 * length c.args.events.now + length c.args.samples.now + 2) c.requires.0, c.requires.1, c.requires.2)
+pub overflow_mul-rows : goal.overflow_mul-rows
+overflow_mul-rows c = omega (arith, mul-le-mul_left c.reckoned_rows-rows.result c.requires.0, c.reckoned_rows-rows.ensures, c.requires.1, c.requires.2)
 
 pub returns-in_err-prepared : goal.returns-in_err-prepared
 returns-in_err-prepared c =
@@ -28,11 +26,11 @@ returns-then-rows-times c =
     let g = c.args in
     let e = prepare-passes g.n g.window g.samples.now g.events.now
     c.in_ok-prepared.ensures in
-    rw (e, c.if-rows-times.true)
+    rw (e, ← c.reckoned_rows-rows.ensures, c.if-rows-times.true)
 
 pub returns-else-rows-times : goal.returns-else-rows-times
 returns-else-rows-times c =
     let g = c.args in
     let e = prepare-passes g.n g.window g.samples.now g.events.now
     c.in_ok-prepared.ensures in
-    rw (e, c.if-rows-times.false)
+    rw (e, ← c.reckoned_rows-rows.ensures, c.if-rows-times.false)
