@@ -11,6 +11,8 @@ use Rattle.rig_run_sheet.specs.SheetRun.{doubles_of}
 use Rattle.sheet_kernel.specs.CycleTolerance.{tolerance_of}
 use Rattle.rig_steady_cycle.specs.SheetCycle.{steady_with}
 use Rattle.printout_cycle.specs.CyclePrintout.{NextCycle}
+use Rattle.sheet.specs.Sheet.{words_of}
+use Rattle.sheet_kernel.specs.declared.bodies.ReadSheet.{ReadSheet}
 
 -- the closed cycle; then the run of its folded list from the amounts, on the divided budgets: the amounts of its last post row
 unfoldable pub next_with : LinearPk → List ℕ → List ℕ → List ℕ → Timed NextCycle
@@ -19,3 +21,7 @@ next_with k w ss es =
     (λ s. then (untimed (fold (state_count k) (sheet_window w) (doubles_of ss) (events_of es)))
     (λ fs. then (last_of (propagator_of k) (state_count k) (sheet_window w) fs s.amounts)
     (λ e. got (record { tolerance = tolerance_of w; starts = s.amounts; ends = e; residuals = s.residuals }))))
+
+-- of what is read
+abbrev pub next_read : ReadSheet → Timed NextCycle
+next_read r = next_with r.kernel (words_of r.bodies.window.now) (words_of r.bodies.samples.now) (words_of r.bodies.events.now)

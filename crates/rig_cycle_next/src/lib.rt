@@ -3,60 +3,64 @@
 
 ghost use Rattle.std.specs.Prelude.{◌≡◌, ◌+◌, ◌/◌, ◌≤◌, length, take, drop};
 ghost use Rattle.limits.specs.Limits.{cycle_rows, cycle_values};
-ghost use Rattle.refusal.specs.Result.{done};
-ghost use Rattle.linear_pk.specs.LinearPk.{sound, state_count};
+ghost use Rattle.linear_pk.specs.LinearPk.{state_count};
 ghost use Rattle.cycle.specs.Closed.{got};
 ghost use Rattle.sheet.specs.Sheet.{words_of};
-ghost use Rattle.sheet.specs.Readable.{Readable};
 ghost use Rattle.sheet_kernel.specs.CycleTolerance.{tolerance_of};
-ghost use Rattle.rig_steady_cycle.specs.SheetCycle.{steady_with};
-ghost use Rattle.rig_cycle_next.specs.NextRun.{next_with};
+ghost use Rattle.rig_steady_cycle.specs.SheetCycle.{steady_read};
+ghost use Rattle.rig_cycle_next.specs.NextRun.{next_read};
 ghost use Rattle.rig_cycle_next.specs.Solves.{Solves};
 ghost use Rattle.printout.specs.Replies.{Prints};
 ghost use Rattle.rig_cycle_next.specs.NextPrintout.{cycle_printout};
 
-use linear_pk::LinearPk;
+use limits::SAMPLES;
 use periodic_next::simulate_cycle;
 use printout::PrintReply;
 use printout_cycle::PrintedCycle;
 use protocol::EventList;
 use refusal::Refusal;
+use rig_run_sheet::cells;
 use sheet::Part;
-use sheet_kernel::tolerance_of;
+use sheet_kernel::{ReadSheet, tolerance_of};
 
-// The cycle of a kernel and the other bodies, folded and run from the amounts that solve it: the place in the values from which those at its end stand.
+// The cycle of a sheet, folded and run from the amounts that solve it: the place in the values from which those at its end stand.
 pub fn run_next(
-    kernel: LinearPk,
-    window: &[u8],
-    samples: &[u8],
-    events: &[u8],
-    readings: &mut [f64],
+    sheet: &ReadSheet,
     amounts: &[f64],
     residual: &[f64],
     times: &mut [f64],
     sides: &mut [u8],
     values: &mut [f64],
 ) -> usize
-    requires { (sound kernel ≡ done kernel) × Readable window.now samples.now events.now × (length readings.old ≡ length samples.now / 8)
-        × Solves (steady_with kernel (words_of window.now) (words_of samples.now) (words_of events.now)) amounts.now residual.now
+    requires { Solves (steady_read sheet.now) amounts.now residual.now
         × (cycle_rows ≤ length times.old) × (cycle_rows ≤ length sides.old) × (cycle_values ≤ length values.old) }
-    ensures { (result + state_count kernel ≤ length values.new)
-        × (next_with kernel (words_of window.now) (words_of samples.now) (words_of events.now)
+    ensures { (result + state_count sheet.now.kernel ≤ length values.new)
+        × (next_read sheet.now
         ≡ got (record {
-          tolerance = tolerance_of (words_of window.now);
+          tolerance = tolerance_of (words_of sheet.now.bodies.window.now);
           starts = amounts.now;
           ends = take
-              (state_count kernel) (drop result values.new);
+              (state_count sheet.now.kernel) (drop result values.new);
           residuals = residual.now;
         })) }
 {
-    sheet_values::doubles(samples, 0, readings);
-    let list = events_layout::events_of(Part(events));
-    let span = sheet_values::window_of(window);
+    let bodies = sheet.bodies;
+    let count = bodies.samples.len() / 8;
+    let mut held: [f64; SAMPLES] = cells();
+    let readings = &mut held[..count];
+    sheet_values::doubles(bodies.samples, 0, readings);
+    let list = events_layout::events_of(Part(bodies.events));
+    let span = sheet_values::window_of(bodies.window);
     let mut folded = EventList::new();
-    fold::normalize_periodic_cycle(kernel, span, list.as_slice(), readings, &mut folded).unwrap();
+    fold::normalize_periodic_cycle(
+        sheet.kernel,
+        span,
+        list.as_slice(),
+        readings,
+        &mut folded,
+    ).unwrap();
     simulate_cycle(
-        kernel,
+        sheet.kernel,
         span,
         folded.as_slice(),
         amounts,
@@ -68,11 +72,7 @@ pub fn run_next(
 
 // Runs that cycle and prints it.
 pub fn next_solved(
-    kernel: LinearPk,
-    window: &[u8],
-    samples: &[u8],
-    events: &[u8],
-    readings: &mut [f64],
+    sheet: &ReadSheet,
     amounts: &[f64],
     residual: &[f64],
     times: &mut [f64],
@@ -80,18 +80,14 @@ pub fn next_solved(
     values: &mut [f64],
     out: &mut [u8],
 ) -> PrintReply
-    requires { (sound kernel ≡ done kernel) × Readable window.now samples.now events.now × (length readings.old ≡ length samples.now / 8)
-        × Solves (steady_with kernel (words_of window.now) (words_of samples.now) (words_of events.now)) amounts.now residual.now
+    requires { Solves (steady_read sheet.now) amounts.now residual.now
         × (cycle_rows ≤ length times.old) × (cycle_rows ≤ length sides.old) × (cycle_values ≤ length values.old) }
-    ensures { Prints (cycle_printout (next_with kernel (words_of window.now) (words_of samples.now)
-        (words_of events.now))) out.old result out.new }
+    ensures { Prints (cycle_printout (next_read sheet.now)) out.old result out.new }
 {
-    let from = run_next(
-        kernel, window, samples, events, readings, amounts, residual, times, sides, values,
-    );
-    let end = from + kernel.state_count();
+    let from = run_next(sheet, amounts, residual, times, sides, values);
+    let end = from + sheet.kernel.state_count();
     let cycle = PrintedCycle {
-        tolerance: tolerance_of(window),
+        tolerance: tolerance_of(sheet.bodies.window),
         starts: amounts,
         ends: &values[from..end],
         residuals: residual,

@@ -4,35 +4,27 @@
 ghost use Rattle.std.specs.Prelude.{◌≡◌, ◌/◌, ◌≤◌, length};
 ghost use Rattle.limits.specs.Limits.{cycle_rows, cycle_values};
 ghost use Rattle.refusal.specs.Numbers.{reply_number};
-ghost use Rattle.refusal.specs.Result.{done};
-ghost use Rattle.linear_pk.specs.LinearPk.{sound, state_count};
-ghost use Rattle.sheet.specs.Sheet.{words_of};
-ghost use Rattle.sheet.specs.Readable.{Readable};
+ghost use Rattle.linear_pk.specs.LinearPk.{state_count};
 ghost use Rattle.printout.specs.Replies.{Prints};
-ghost use Rattle.rig_cycle_next.specs.NextRun.{next_with};
+ghost use Rattle.rig_cycle_next.specs.NextRun.{next_read};
 ghost use Rattle.rig_cycle_next.specs.NextPrintout.{cycle_printout};
 ghost use Rattle.printout.specs.Cells.{printed, printed_length};
 ghost use Rattle.printout.specs.Printouts.{number_into};
 ghost use Rattle.rig_cycle_sheet.specs.CycleSheet.{cycle_printout_of_bytes};
 
-use limits::{SAMPLES, STATES};
-use linear_pk::LinearPk;
+use limits::STATES;
 use periodic_inputs::{side_cells, time_cells, value_cells};
 use printout::{PrintReply, print_refusal, print_refused};
 use rig_cycle_next::next_solved;
-use rig_run_sheet::cells;
 use rig_steady_cycle::solve_bodies;
+use sheet_kernel::{ReadSheet, read_bodies};
 
 // The most bytes of a printout: a line of the most states, and the longer verdict.
 pub const CYCLE_BYTES: usize = 68 * STATES + 11;
 
-// Solves the cycle of a kernel and the other bodies in lent cells, runs one cycle more, and prints that, or the refusal of the closed one.
+// Solves the cycle of a sheet in lent cells, runs one cycle more, and prints that, or the refusal of the closed one.
 pub fn next_cells(
-    kernel: LinearPk,
-    window: &[u8],
-    samples: &[u8],
-    events: &[u8],
-    readings: &mut [f64],
+    sheet: &ReadSheet,
     amounts: &mut [f64],
     residual: &mut [f64],
     times: &mut [f64],
@@ -40,47 +32,29 @@ pub fn next_cells(
     values: &mut [f64],
     out: &mut [u8],
 ) -> PrintReply
-    requires { (sound kernel ≡ done kernel) × Readable window.now samples.now events.now × (length readings.old ≡ length samples.now / 8)
-        × (length amounts.old ≡ state_count kernel) × (length residual.old ≡ state_count kernel)
+    requires { (length amounts.old ≡ state_count sheet.now.kernel) × (length residual.old ≡ state_count sheet.now.kernel)
         × (cycle_rows ≤ length times.old) × (cycle_rows ≤ length sides.old) × (cycle_values ≤ length values.old) }
-    ensures { Prints (cycle_printout (next_with kernel (words_of window.now) (words_of samples.now)
-        (words_of events.now))) out.old result out.new }
+    ensures { Prints (cycle_printout (next_read sheet.now)) out.old result out.new }
 {
-    let solved = solve_bodies(kernel, window, samples, events, readings, amounts, residual);
+    let solved = solve_bodies(sheet, amounts, residual);
     match solved {
         Err(stop) => print_refused(stop.refusal, stop.time, out),
-        Ok(_) => next_solved(
-            kernel, window, samples, events, readings, amounts, residual, times, sides, values, out,
-        ),
+        Ok(_) => next_solved(sheet, amounts, residual, times, sides, values, out),
     }
 }
 
 // The same in cells of its own.
-fn next_bodies(
-    kernel: LinearPk,
-    window: &[u8],
-    samples: &[u8],
-    events: &[u8],
-    out: &mut [u8],
-) -> PrintReply
-    requires { (sound kernel ≡ done kernel) × Readable window.now samples.now events.now }
-    ensures { Prints (cycle_printout (next_with kernel (words_of window.now) (words_of samples.now)
-        (words_of events.now))) out.old result out.new }
+fn next_bodies(sheet: &ReadSheet, out: &mut [u8]) -> PrintReply
+    ensures { Prints (cycle_printout (next_read sheet.now)) out.old result out.new }
 {
-    let n = kernel.state_count();
-    let count = samples.len() / 8;
-    let mut readings: [f64; SAMPLES] = cells();
+    let n = sheet.kernel.state_count();
     let mut amounts = [0.0f64; STATES];
     let mut residual = [0.0f64; STATES];
     let mut times = time_cells();
     let mut sides = side_cells();
     let mut values = value_cells();
     next_cells(
-        kernel,
-        window,
-        samples,
-        events,
-        &mut readings[..count],
+        sheet,
         &mut amounts[..n],
         &mut residual[..n],
         &mut times,
@@ -91,23 +65,14 @@ fn next_bodies(
 }
 
 // The printout of a sheet's next cycle, from the front of out. Where it has no room there nothing is written, and an answer is 4.
-// As `steady_sheet` but for the entry: one function over both would ask for a closure with this contract from each.
+// By its own entry: `steady_sheet` calls another, and one function over both would ask for a closure with this contract from each.
 pub fn cycle_sheet(bytes: &[u8], out: &mut [u8]) -> PrintReply
     ensures reply_value { reply_number result.reply ≡ number_into out.old (cycle_printout_of_bytes bytes.now) }
     ensures length_value { result.length ≡ printed_length (cycle_printout_of_bytes bytes.now).text out.old }
     ensures out_after { out.new ≡ printed (cycle_printout_of_bytes bytes.now).text out.old }
 {
-    match sheet_kernel::read_kernel(bytes) {
+    match read_bodies(bytes) {
         Err(refusal) => print_refusal(refusal, out),
-        Ok(read) => {
-            let places = read.places;
-            next_bodies(
-                read.kernel,
-                sheet::body(bytes, places.window, places.amounts),
-                sheet::body(bytes, places.samples, places.events),
-                sheet::body(bytes, places.events, places.end),
-                out,
-            )
-        }
+        Ok(sheet) => next_bodies(&sheet, out),
     }
 }

@@ -5,12 +5,10 @@ use Prim.Native.Nat.{ℕ}
 use Rattle.refusal.specs.Result.{Result, refused, done, and_then}
 use Rattle.linear_pk.specs.declared.kernel.LinearPk.{LinearPk}
 use Rattle.events_layout.specs.Layout.{events_of}
-use Rattle.sheet.specs.Sheet.{words_of, Sheet}
-use Rattle.sheet.specs.Reader.{Between}
+use Rattle.sheet.specs.Sheet.{Sheet}
 use Rattle.sheet_kernel.specs.Values.{model_of}
-use Rattle.sheet_kernel.specs.Read.{read_kernel}
-use Rattle.sheet_kernel.specs.declared.SheetKernel.{SheetKernel}
-use Rattle.sheet_kernel.proofs.Kernels.{KernelRead, words_are, amounts_are, entry-refuses, entry_runs}
+use Rattle.sheet_kernel.specs.SheetWords.{SheetWords, words_with, read_bodies}
+use Rattle.sheet_kernel.proofs.Kernels.{entry-refuses, entry_runs}
 use Rattle.printout.specs.Printouts.{Printout}
 use Rattle.printout.specs.Replies.{refusal}
 use Rattle.sheet_events.specs.OrderedDoses.{ordered}
@@ -19,11 +17,8 @@ use Rattle.rig_run_printout.specs.RunPrintout.{outcome_text, run_printout}
 use Rattle.rig_run_printout.specs.Rig.{run_sheet, run_printout_of, printout_of_bytes}
 
 -- the printout of a kernel and the words of window, amounts, samples and events
-abbrev of_words : LinearPk → List ℕ → List ℕ → List ℕ → List ℕ → Printout
-of_words k w a ss es = run_printout (ordered (events_of es)) (run_with k w a ss es)
-
-abbrev of_kernel : LinearPk → Sheet → Printout
-of_kernel k s = of_words k s.window s.amounts s.samples s.events
+abbrev of_words : SheetWords → Printout
+of_words b = run_printout (ordered (events_of b.events)) (run_with b.kernel b.window b.amounts b.samples b.events)
 
 pub sheet-refused : (s : Sheet) {c : ℕ} → model_of s.model ≡ refused c → run_printout_of (done s) ≡ refusal c
 unfolding run_printout_of run_sheet outcome_text
@@ -31,7 +26,7 @@ sheet-refused s e =
     ap (λ (r : Result LinearPk). run_printout (ordered (events_of s.events)) (and_then r
     (λ (k : LinearPk). run_with k s.window s.amounts s.samples s.events))) e
 
-pub sheet_runs : (s : Sheet) {k : LinearPk} → model_of s.model ≡ done k → run_printout_of (done s) ≡ of_kernel k s
+pub sheet_runs : (s : Sheet) {k : LinearPk} → model_of s.model ≡ done k → run_printout_of (done s) ≡ of_words (words_with s k)
 unfolding run_printout_of run_sheet
 sheet_runs s e =
     ap (λ (r : Result LinearPk). run_printout (ordered (events_of s.events)) (and_then r
@@ -41,15 +36,8 @@ not_read : (c : ℕ) → run_printout_of (refused c) ≡ refusal c
 unfolding run_printout_of
 not_read c = refl
 
-pub bytes_refused : (bs : List ℕ) {c : ℕ} → refused c ≡ read_kernel bs → refusal c ≡ printout_of_bytes bs
-bytes_refused bs e = sym (entry-refuses run_printout_of refusal of_kernel not_read (λ s c e. sheet-refused s e) (λ s k e. sheet_runs s e) bs e)
+pub bytes_refused : (bs : List ℕ) {c : ℕ} → refused c ≡ read_bodies bs → refusal c ≡ printout_of_bytes bs
+bytes_refused bs e = sym (entry-refuses run_printout_of refusal of_words not_read (λ s c e. sheet-refused s e) (λ s k e. sheet_runs s e) bs e)
 
-pub bytes_run : {bs : List ℕ} {r : SheetKernel} → KernelRead bs r
-    → {window amounts samples events : List ℕ} → Between bs r.places.window r.places.amounts window
-    → Between bs r.places.amounts r.places.samples amounts → Between bs r.places.samples r.places.events samples
-    → Between bs r.places.events r.places.end events
-    → of_words r.kernel (words_of window) (words_of amounts) (words_of samples) (words_of events) ≡ printout_of_bytes bs
-bytes_run read w a s v =
-    let e = words_are read w s v in
-    rw (e.0, amounts_are read a, e.1, e.2)
-    (sym (entry_runs run_printout_of refusal of_kernel not_read (λ s c e. sheet-refused s e) (λ s k e. sheet_runs s e) read))
+pub bytes_run : (bs : List ℕ) {b : SheetWords} → done b ≡ read_bodies bs → of_words b ≡ printout_of_bytes bs
+bytes_run bs e = sym (entry_runs run_printout_of refusal of_words not_read (λ s c e. sheet-refused s e) (λ s k e. sheet_runs s e) bs e)

@@ -1,2 +1,3 @@
 pub mod RunPrintout
 pub mod Rig
+pub mod BodiesPrintout

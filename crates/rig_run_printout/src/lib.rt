@@ -5,13 +5,8 @@ ghost use Rattle.std.specs.Prelude.{◌≡◌, cond, ◌*◌, ◌/◌, leb, leng
 ghost use Rattle.limits.specs.Limits.{read_amounts};
 ghost use Rattle.refusal.specs.Numbers.{reply_number};
 ghost use Rattle.linear_pk.specs.LinearPk.{state_count};
-ghost use Rattle.events_layout.specs.Layout.{events_of};
-ghost use Rattle.sheet.specs.Sheet.{words_of};
-ghost use Rattle.sheet.specs.Readable.{Readable};
 ghost use Rattle.printout.specs.Replies.{Prints};
-ghost use Rattle.sheet_events.specs.OrderedDoses.{ordered as orderedOf};
-ghost use Rattle.rig_run_sheet.specs.SheetRun.{run_with, reckoned_of};
-ghost use Rattle.rig_run_printout.specs.RunPrintout.{run_printout};
+ghost use Rattle.rig_run_printout.specs.BodiesPrintout.{reckoned_in, doses_in, bodies_printout};
 ghost use Rattle.printout.specs.Cells.{printed, printed_length};
 ghost use Rattle.printout.specs.Printouts.{number_into};
 ghost use Rattle.rig_run_printout.specs.Rig.{printout_of_bytes};
@@ -23,18 +18,25 @@ use printout_rows::PrintedRows;
 use rig_run_sheet::{cells, known, side_cells, simulate_bodies};
 use sheet::Part;
 use sheet_events::ordered;
+use sheet_kernel::{Bodies, read_bodies};
 use simulation_report::RunError;
 
 // The most bytes of a printout: "rows", three digits and "ordered", and the most rows, each with the longer side.
 pub const RUN_BYTES: usize = 34 + SHEET_ROWS * (22 + 17 * STATES);
 
+// The sum of the doses. Apart, so that the list lies in no frame of the run.
+#[inline(never)]
+fn summed_doses(bodies: &Bodies) -> f64
+    ensures { result ≡ doses_in bodies.now }
+{
+    let list = events_layout::events_of(Part(bodies.events));
+    ordered(list.as_slice())
+}
+
 // Runs a kernel and the other bodies in lent cells, and prints the run.
 fn run_cells(
     kernel: LinearPk,
-    window: &[u8],
-    amounts: &[u8],
-    samples: &[u8],
-    events: &[u8],
+    bodies: &Bodies,
     initial: &mut [f64],
     readings: &mut [f64],
     times: &mut [f64],
@@ -42,24 +44,29 @@ fn run_cells(
     values: &mut [f64],
     out: &mut [u8],
 ) -> PrintReply
-    requires { Readable window.now samples.now events.now
-        × (length initial.old ≡ cond (leb (length amounts.now / 8) read_amounts) (length amounts.now / 8) read_amounts)
-        × (length readings.old ≡ length samples.now / 8)
-        × (length times.old ≡ reckoned_of (words_of samples.now) (words_of events.now))
-        × (length sides.old ≡ reckoned_of (words_of samples.now) (words_of events.now))
-        × (length values.old ≡ reckoned_of (words_of samples.now) (words_of events.now) * state_count kernel) }
-    ensures { Prints (run_printout (orderedOf (events_of (words_of events.now)))
-        (run_with kernel (words_of window.now) (words_of amounts.now) (words_of samples.now)
-        (words_of events.now))) out.old result out.new }
+    requires { (length initial.old ≡ cond (leb (length bodies.now.amounts.now / 8) read_amounts)
+        (length bodies.now.amounts.now / 8) read_amounts)
+        × (length readings.old ≡ length bodies.now.samples.now / 8)
+        × (length times.old ≡ reckoned_in bodies.now) × (length sides.old ≡ reckoned_in bodies.now)
+        × (length values.old ≡ reckoned_in bodies.now * state_count kernel) }
+    ensures { Prints (bodies_printout kernel bodies.now) out.old result out.new }
 {
     let run = simulate_bodies(
-        kernel, window, amounts, samples, events, initial, readings, times, sides, values,
+        kernel,
+        bodies.window,
+        bodies.amounts,
+        bodies.samples,
+        bodies.events,
+        initial,
+        readings,
+        times,
+        sides,
+        values,
     );
     match run {
         Err(RunError::Refused(refusal)) => print_refusal(refusal, out),
         Err(RunError::Stopped { refusal, time, .. }) => print_refused(refusal, time, out),
         Ok(reached) => {
-            let list = events_layout::events_of(Part(events));
             let rows = PrintedRows {
                 n: kernel.state_count(),
                 rows: reached.rows,
@@ -67,28 +74,18 @@ fn run_cells(
                 sides,
                 values,
             };
-            print_run(&rows, ordered(list.as_slice()), out)
+            print_run(&rows, summed_doses(bodies), out)
         }
     }
 }
 
 // The same in cells of its own, for the most that a sheet holds.
-pub fn run_bodies(
-    kernel: LinearPk,
-    window: &[u8],
-    amounts: &[u8],
-    samples: &[u8],
-    events: &[u8],
-    out: &mut [u8],
-) -> PrintReply
-    requires { Readable window.now samples.now events.now }
-    ensures { Prints (run_printout (orderedOf (events_of (words_of events.now)))
-        (run_with kernel (words_of window.now) (words_of amounts.now) (words_of samples.now)
-        (words_of events.now))) out.old result out.new }
+pub fn run_bodies(kernel: LinearPk, bodies: &Bodies, out: &mut [u8]) -> PrintReply
+    ensures { Prints (bodies_printout kernel bodies.now) out.old result out.new }
 {
-    let first = known(amounts.len() / 8);
-    let count = samples.len() / 8;
-    let rows = 4 * (events.len() / EVENT_BYTES) + count + 2;
+    let first = known(bodies.amounts.len() / 8);
+    let count = bodies.samples.len() / 8;
+    let rows = 4 * (bodies.events.len() / EVENT_BYTES) + count + 2;
     let held = rows * kernel.state_count();
     let mut initial = [0.0f64; READ_AMOUNTS];
     let mut readings: [f64; SAMPLES] = cells();
@@ -97,10 +94,7 @@ pub fn run_bodies(
     let mut values: [f64; SHEET_VALUES] = cells();
     run_cells(
         kernel,
-        window,
-        amounts,
-        samples,
-        events,
+        bodies,
         &mut initial[..first],
         &mut readings[..count],
         &mut times[..rows],
@@ -116,18 +110,8 @@ pub fn run_sheet(bytes: &[u8], out: &mut [u8]) -> PrintReply
     ensures length_value { result.length ≡ printed_length (printout_of_bytes bytes.now).text out.old }
     ensures out_after { out.new ≡ printed (printout_of_bytes bytes.now).text out.old }
 {
-    match sheet_kernel::read_kernel(bytes) {
+    match read_bodies(bytes) {
         Err(refusal) => print_refusal(refusal, out),
-        Ok(read) => {
-            let places = read.places;
-            run_bodies(
-                read.kernel,
-                sheet::body(bytes, places.window, places.amounts),
-                sheet::body(bytes, places.amounts, places.samples),
-                sheet::body(bytes, places.samples, places.events),
-                sheet::body(bytes, places.events, places.end),
-                out,
-            )
-        }
+        Ok(sheet) => run_bodies(sheet.kernel, &sheet.bodies, out),
     }
 }

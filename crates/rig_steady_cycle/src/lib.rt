@@ -1,47 +1,41 @@
-// The closed cycle of a kernel and the other bodies of a sheet, and its printout.
+// The closed cycle of a sheet that is read, and its printout.
 #![tactic(auto)]
 
 ghost use Rattle.std.specs.Prelude.{◌≡◌, ◌/◌, length};
-ghost use Rattle.refusal.specs.Result.{done};
-ghost use Rattle.linear_pk.specs.LinearPk.{sound, state_count};
+ghost use Rattle.linear_pk.specs.LinearPk.{state_count};
 ghost use Rattle.periodic_acceptance.specs.Entry.{steady_reply};
-ghost use Rattle.sheet.specs.Sheet.{words_of};
-ghost use Rattle.sheet.specs.Readable.{Readable};
-ghost use Rattle.rig_steady_cycle.specs.SheetCycle.{steady_with};
+ghost use Rattle.rig_steady_cycle.specs.SheetCycle.{steady_read};
 ghost use Rattle.periodic_acceptance.specs.Replies.{SteadyAnswer};
 ghost use Rattle.printout.specs.Replies.{Prints};
 ghost use Rattle.printout_steady.specs.SteadyReplies.{steady_printout};
 
 use limits::{SAMPLES, STATES};
-use linear_pk::LinearPk;
 use periodic_acceptance::Stop;
 use printout::PrintReply;
 use printout_steady::print_reply;
 use rig_run_sheet::cells;
 use sheet::Part;
-use sheet_kernel::tolerance_of;
+use sheet_kernel::{ReadSheet, tolerance_of};
 
-// The closed cycle of a kernel and the other bodies, into slices of as many cells as it has states.
+// The closed cycle of a sheet, into slices of as many cells as its kernel has states.
 pub fn solve_bodies(
-    kernel: LinearPk,
-    window: &[u8],
-    samples: &[u8],
-    events: &[u8],
-    readings: &mut [f64],
+    sheet: &ReadSheet,
     amounts: &mut [f64],
     residual: &mut [f64],
 ) -> Result<f64, Stop>
-    requires { (sound kernel ≡ done kernel) × Readable window.now samples.now events.now
-        × (length readings.old ≡ length samples.now / 8) × (length amounts.old ≡ state_count kernel) × (length residual.old ≡ state_count kernel) }
-    ensures { SteadyAnswer (steady_with kernel (words_of window.now) (words_of samples.now) (words_of events.now))
-        (steady_reply result) amounts.old residual.old amounts.new residual.new }
+    requires { (length amounts.old ≡ state_count sheet.now.kernel) × (length residual.old ≡ state_count sheet.now.kernel) }
+    ensures { SteadyAnswer (steady_read sheet.now) (steady_reply result) amounts.old residual.old amounts.new residual.new }
 {
-    sheet_values::doubles(samples, 0, readings);
-    let list = events_layout::events_of(Part(events));
-    let span = sheet_values::window_of(window);
-    let tolerance = tolerance_of(window);
+    let bodies = sheet.bodies;
+    let count = bodies.samples.len() / 8;
+    let mut held: [f64; SAMPLES] = cells();
+    let readings = &mut held[..count];
+    sheet_values::doubles(bodies.samples, 0, readings);
+    let list = events_layout::events_of(Part(bodies.events));
+    let span = sheet_values::window_of(bodies.window);
+    let tolerance = tolerance_of(bodies.window);
     periodic::periodic_steady_state(
-        kernel,
+        sheet.kernel,
         span,
         list.as_slice(),
         readings,
@@ -51,54 +45,15 @@ pub fn solve_bodies(
     )
 }
 
-// Solves the cycle of a kernel and the other bodies in lent cells, as many as it has states, and prints the answer.
-fn steady_cells(
-    kernel: LinearPk,
-    window: &[u8],
-    samples: &[u8],
-    events: &[u8],
-    readings: &mut [f64],
-    amounts: &mut [f64],
-    residual: &mut [f64],
-    out: &mut [u8],
-) -> PrintReply
-    requires { (sound kernel ≡ done kernel) × Readable window.now samples.now events.now
-        × (length readings.old ≡ length samples.now / 8) × (length amounts.old ≡ state_count kernel) × (length residual.old ≡ state_count kernel) }
-    ensures { Prints (steady_printout (steady_with kernel (words_of window.now) (words_of samples.now)
-        (words_of events.now)))
-        out.old result out.new }
+// Solves the cycle in cells of its own and prints the answer.
+pub fn steady_bodies(sheet: &ReadSheet, out: &mut [u8]) -> PrintReply
+    ensures { Prints (steady_printout (steady_read sheet.now)) out.old result out.new }
 {
-    let n = kernel.state_count();
-    let reply = solve_bodies(kernel, window, samples, events, readings, amounts, residual);
+    let n = sheet.kernel.state_count();
+    let mut solution = [0.0f64; STATES];
+    let mut change = [0.0f64; STATES];
+    let amounts = &mut solution[..n];
+    let residual = &mut change[..n];
+    let reply = solve_bodies(sheet, amounts, residual);
     print_reply(reply, n, amounts, residual, out)
-}
-
-// The same in cells of its own.
-pub fn steady_bodies(
-    kernel: LinearPk,
-    window: &[u8],
-    samples: &[u8],
-    events: &[u8],
-    out: &mut [u8],
-) -> PrintReply
-    requires { (sound kernel ≡ done kernel) × Readable window.now samples.now events.now }
-    ensures { Prints (steady_printout (steady_with kernel (words_of window.now) (words_of samples.now)
-        (words_of events.now)))
-        out.old result out.new }
-{
-    let n = kernel.state_count();
-    let count = samples.len() / 8;
-    let mut readings: [f64; SAMPLES] = cells();
-    let mut amounts = [0.0f64; STATES];
-    let mut residual = [0.0f64; STATES];
-    steady_cells(
-        kernel,
-        window,
-        samples,
-        events,
-        &mut readings[..count],
-        &mut amounts[..n],
-        &mut residual[..n],
-        out,
-    )
 }

@@ -11,28 +11,20 @@ use limits::STATES;
 use printout::{PrintReply, print_refusal};
 use refusal::Refusal;
 use rig_steady_cycle::steady_bodies;
+use sheet_kernel::read_bodies;
 
 // The most bytes of a printout: amount and residual of the most states, and "max".
 pub const STEADY_BYTES: usize = 34 * STATES + 21;
 
 // The printout of a sheet's closed cycle, from the front of out. Where it has no room there nothing is written, and an answer is 4.
-// As `cycle_sheet` but for the entry: one function over both would ask for a closure with this contract from each.
+// By its own entry: `cycle_sheet` calls another, and one function over both would ask for a closure with this contract from each.
 pub fn steady_sheet(bytes: &[u8], out: &mut [u8]) -> PrintReply
     ensures reply_value { reply_number result.reply ≡ number_into out.old (steady_printout_of_bytes bytes.now) }
     ensures length_value { result.length ≡ printed_length (steady_printout_of_bytes bytes.now).text out.old }
     ensures out_after { out.new ≡ printed (steady_printout_of_bytes bytes.now).text out.old }
 {
-    match sheet_kernel::read_kernel(bytes) {
+    match read_bodies(bytes) {
         Err(refusal) => print_refusal(refusal, out),
-        Ok(read) => {
-            let places = read.places;
-            steady_bodies(
-                read.kernel,
-                sheet::body(bytes, places.window, places.amounts),
-                sheet::body(bytes, places.samples, places.events),
-                sheet::body(bytes, places.events, places.end),
-                out,
-            )
-        }
+        Ok(sheet) => steady_bodies(&sheet, out),
     }
 }

@@ -14,7 +14,8 @@ use Rattle.sheet.specs.Readable.{Readable}
 use Rattle.sheet_kernel.specs.Values.{model_of}
 use Rattle.sheet_kernel.specs.Read.{modelled, read_kernel}
 use Rattle.sheet_kernel.specs.declared.SheetKernel.{SheetKernel}
-use Rattle.sheet_kernel.proofs.Bodies as bodies
+use Rattle.sheet_kernel.specs.SheetWords.{SheetWords, words_with, bodied, read_bodies}
+use Rattle.sheet_kernel.proofs.Placed as placed
 
 -- a kernel that a model makes passes the kernel's own test
 pub model-sound : (m : List ℕ) {k : LinearPk} → model_of m ≡ done k → sound k ≡ done k
@@ -26,7 +27,7 @@ no_value q = let z : ◌≡◌ {A = ℕ} 0 1 = cc in omega arith
 
 -- ---- what is read: the sheet, its kernel, and the places of its bodies
 pub record KernelRead (bs : List ℕ) (r : SheetKernel) : Type 0 where
-  pub at : bodies.ReadAt bs r.places
+  pub at : placed.ReadAt bs r.places
   pub model : model_of (sheet_of (words_of bs)).model ≡ done r.kernel
 
 pub kernel_read : {bs : List ℕ} {r : SheetKernel} → done r ≡ read_kernel bs → KernelRead bs r
@@ -41,7 +42,7 @@ kernel_read {bs} {r} = on (read_sheet bs) refl
     on : (x : Result Sheet) → read_sheet bs ≡ x → done r ≡ and_then x (modelled bs) → KernelRead bs r
     on (refused c) e q = absurd (no_value (sym q))
     on (done s) e q =
-        let h = bodies.sheet_read bs e in
+        let h = placed.sheet_read bs e in
         let same : s ≡ sheet_of (words_of bs) = cc in
         let m = made (model_of s.model) q in
         record { at = record { sheet = h; places = m.1 }; model = ap (λ (x : Sheet). model_of x.model) (sym same) ∙ m.0 }
@@ -55,7 +56,7 @@ unread bs = on (read_sheet bs)
     on (refused d) q = ap (λ (x : Result Places). refused (number x)) q
     on (done s) q = absurd (no_value q)
 
-module _ {bs : List ℕ} {p : Places} (r : bodies.ReadAt bs p) where
+module _ {bs : List ℕ} {p : Places} (r : placed.ReadAt bs p) where
   pub unmade : {c : ℕ} → refused c ≡ model_of (sheet_of (words_of bs)).model → refused c ≡ read_kernel bs
   unfolding read_kernel
   unmade q = ap (λ (x : Result LinearPk). and_then x (λ (k : LinearPk). done (record { kernel = k; places = places_of (words_of bs) }))) q
@@ -71,40 +72,77 @@ module _ {bs : List ℕ} {r : SheetKernel} (read : KernelRead bs r) where
   pub kernel-sound : sound r.kernel ≡ done r.kernel
   kernel-sound = model-sound (sheet_of (words_of bs)).model read.model
 
-  pub inside : bodies.Inside bs r.places
-  inside = bodies.inside read.at
+  pub inside : placed.Inside bs r.places
+  inside = placed.inside read.at
 
   -- the parts that are cut at the places
   module _ {window samples events : List ℕ} (w : Between bs r.places.window r.places.amounts window)
       (s : Between bs r.places.samples r.places.events samples)
       (v : Between bs r.places.events r.places.end events) where
     pub readable : Readable window samples events
-    readable = bodies.readable read.at w s v
+    readable = placed.readable read.at w s v
 
     pub words_are : (words_of window ≡ (sheet_of (words_of bs)).window) × (words_of samples ≡ (sheet_of (words_of bs)).samples)
         × (words_of events ≡ (sheet_of (words_of bs)).events)
-    words_are = (bodies.window_is read.at w, bodies.samples_are read.at s, bodies.events_are read.at v)
+    words_are = (placed.window_is read.at w, placed.samples_are read.at s, placed.events_are read.at v)
 
   pub amounts_are : {amounts : List ℕ} → Between bs r.places.amounts r.places.samples amounts
       → words_of amounts ≡ (sheet_of (words_of bs)).amounts
-  amounts_are a = bodies.amounts_are read.at a
+  amounts_are a = placed.amounts_are read.at a
 
--- ---- an entry over what is read: a refusal's number gives no, else f is of the kernel and the sheet
-module _ {B : Type 0} (entry : Result Sheet → B) (no : ℕ → B) (f : LinearPk → Sheet → B) (unread : (c : ℕ) → entry (refused c) ≡ no c)
+  -- the kernel and the words of the other bodies
+  pub bodies_are : {window amounts samples events : List ℕ} → Between bs r.places.window r.places.amounts window
+      → Between bs r.places.amounts r.places.samples amounts → Between bs r.places.samples r.places.events samples
+      → Between bs r.places.events r.places.end events
+      → done (record { kernel = r.kernel; window = words_of window; amounts = words_of amounts; samples = words_of samples; events = words_of events })
+      ≡ read_bodies bs
+  unfolding read_bodies
+  bodies_are w a s v =
+      let e = words_are w s v in
+      rw (e.0, amounts_are a, e.1, e.2)
+      (sym (ap (λ (x : Result Sheet). and_then x bodied) read.at.sheet
+      ∙ ap (λ (m : Result LinearPk). and_then m (λ (k : LinearPk). done (words_with (sheet_of (words_of bs)) k))) read.model))
+
+pub unread_bodies : (bs : List ℕ) {c : ℕ} → refused c ≡ read_kernel bs → refused c ≡ read_bodies bs
+unfolding read_kernel read_bodies
+unread_bodies bs = on (read_sheet bs)
+  where
+    model : (s : Sheet) (m : Result LinearPk) {c : ℕ}
+        → ◌≡◌ {A = Result SheetKernel} (refused c) (and_then m (λ (k : LinearPk). done (record { kernel = k; places = places_of (words_of bs) })))
+        → refused c ≡ and_then m (λ (k : LinearPk). done (words_with s k))
+    model s (refused d) q = ap (λ (x : Result SheetKernel). refused (number x)) q
+    model s (done k) q = absurd (no_value q)
+
+    on : (x : Result Sheet) {c : ℕ} → refused c ≡ and_then x (modelled bs) → refused c ≡ and_then x bodied
+    on (refused d) q = ap (λ (x : Result SheetKernel). refused (number x)) q
+    on (done s) q = model s (model_of s.model) q
+
+-- ---- an entry over what is read: a refusal's number gives no, else f is of the kernel and the words of the other bodies
+module _ {B : Type 0} (entry : Result Sheet → B) (no : ℕ → B) (f : SheetWords → B) (unread : (c : ℕ) → entry (refused c) ≡ no c)
     (unmade : (s : Sheet) (c : ℕ) → model_of s.model ≡ refused c → entry (done s) ≡ no c)
-    (runs : (s : Sheet) (k : LinearPk) → model_of s.model ≡ done k → entry (done s) ≡ f k s) where
-  pub entry-refuses : (bs : List ℕ) {c : ℕ} → refused c ≡ read_kernel bs → entry (read_sheet bs) ≡ no c
-  unfolding read_kernel
+    (runs : (s : Sheet) (k : LinearPk) → model_of s.model ≡ done k → entry (done s) ≡ f (words_with s k)) where
+  pub entry-refuses : (bs : List ℕ) {c : ℕ} → refused c ≡ read_bodies bs → entry (read_sheet bs) ≡ no c
+  unfolding read_bodies
   entry-refuses bs = on (read_sheet bs)
     where
       model : (s : Sheet) (m : Result LinearPk) → model_of s.model ≡ m → {c : ℕ}
-          → ◌≡◌ {A = Result SheetKernel} (refused c) (and_then m (λ (k : LinearPk). done (record { kernel = k; places = places_of (words_of bs) }))) → entry (done s) ≡ no c
-      model s (refused d) p q = unmade s d p ∙ ap (λ (x : Result SheetKernel). no (number x)) (sym q)
+          → refused c ≡ and_then m (λ (k : LinearPk). done (words_with s k)) → entry (done s) ≡ no c
+      model s (refused d) p q = unmade s d p ∙ ap (λ (x : Result SheetWords). no (number x)) (sym q)
       model s (done k) p q = absurd (no_value q)
 
-      on : (x : Result Sheet) {c : ℕ} → refused c ≡ and_then x (modelled bs) → entry x ≡ no c
-      on (refused d) q = unread d ∙ ap (λ (x : Result SheetKernel). no (number x)) (sym q)
+      on : (x : Result Sheet) {c : ℕ} → refused c ≡ and_then x bodied → entry x ≡ no c
+      on (refused d) q = unread d ∙ ap (λ (x : Result SheetWords). no (number x)) (sym q)
       on (done s) q = model s (model_of s.model) refl q
 
-  pub entry_runs : {bs : List ℕ} {r : SheetKernel} → KernelRead bs r → entry (read_sheet bs) ≡ f r.kernel (sheet_of (words_of bs))
-  entry_runs {bs} {r} read = ap entry read.at.sheet ∙ runs (sheet_of (words_of bs)) r.kernel read.model
+  pub entry_runs : (bs : List ℕ) {b : SheetWords} → done b ≡ read_bodies bs → entry (read_sheet bs) ≡ f b
+  unfolding read_bodies
+  entry_runs bs {b} = on (read_sheet bs)
+    where
+      model : (s : Sheet) (m : Result LinearPk) → model_of s.model ≡ m → done b ≡ and_then m (λ (k : LinearPk). done (words_with s k))
+          → entry (done s) ≡ f b
+      model s (refused d) p q = absurd (no_value (sym q))
+      model s (done k) p q = let e : words_with s k ≡ b = cc in runs s k p ∙ ap f e
+
+      on : (x : Result Sheet) → done b ≡ and_then x bodied → entry x ≡ f b
+      on (refused d) q = absurd (no_value (sym q))
+      on (done s) q = model s (model_of s.model) refl q

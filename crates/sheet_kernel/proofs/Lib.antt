@@ -1,4 +1,4 @@
 pub mod Models
-pub mod Bodies
+pub mod Placed
 pub mod Kernels
 pub mod Cycles

@@ -1,3 +1,4 @@
 pub mod Values
 pub mod CycleTolerance
 pub mod Read
+pub mod SheetWords

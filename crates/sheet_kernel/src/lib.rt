@@ -1,14 +1,18 @@
-// The reader of a sheet and of its kernel, and the tolerance of its closed cycle.
+// The reader of a sheet: its kernel and its other bodies, and the tolerance of its closed cycle.
 #![tactic(auto)]
 
 ghost use Rattle.std.specs.Prelude.{◌≡◌, true, ◌+◌, ◌-◌, ◌*◌, ◌≤◌, length};
-ghost use Rattle.refusal.specs.Numbers.{outcome_of};
+ghost use Rattle.refusal.specs.Numbers.{outcome_of, outcome_with};
 ghost use Rattle.sheet_words.specs.Words.{words_of, word};
 ghost use Rattle.sheet.specs.Model.{model_fits};
 ghost use Rattle.sheet_kernel.specs.Values.{model_absorption, model_of};
 ghost use Rattle.sheet_kernel.specs.Read.{read_kernel};
+ghost use Rattle.sheet_kernel.specs.SheetWords.{words_read, read_bodies};
 ghost use Rattle.sheet_kernel.specs.CycleTolerance.{tolerance_of};
 
+mod bodies;
+
+pub use bodies::{Bodies, ReadSheet};
 use cycle::SteadyStateTolerance;
 use limits::VOLUMES;
 use linear_pk::LinearPk;
@@ -69,6 +73,24 @@ pub fn read_kernel(bytes: &[u8]) -> Result<SheetKernel, Refusal>
     let places = sheet::read_sheet(bytes)?;
     let kernel = kernel_of(sheet::body(bytes, places.model, places.window))?;
     Ok(SheetKernel { kernel, places })
+}
+
+// A sheet, by its kernel and the other bodies; or 40, 5, 1 or 2.
+pub fn read_bodies(bytes: &[u8]) -> Result<ReadSheet<'_>, Refusal>
+    ensures { outcome_with words_read result ≡ read_bodies bytes.now }
+{
+    let read = read_kernel(bytes)?;
+    let places = read.places;
+    let bodies = Bodies {
+        window: sheet::body(bytes, places.window, places.amounts),
+        amounts: sheet::body(bytes, places.amounts, places.samples),
+        samples: sheet::body(bytes, places.samples, places.events),
+        events: sheet::body(bytes, places.events, places.end),
+    };
+    Ok(ReadSheet {
+        kernel: read.kernel,
+        bodies,
+    })
 }
 
 // The last two words of the window.

@@ -10,14 +10,16 @@ use Rattle.rig_cycle_next.proofs.next_solved.Goals as goal
 
 pub invariant_of-cycle : goal.invariant_of-cycle
 invariant_of-cycle c =
-    let g = c.args in
-    let z = solves_sized g.kernel (words_of g.window.now) (words_of g.samples.now) (words_of g.events.now) c.requires.0 c.requires.3 in
+    let s = c.args.sheet.now in
+    let b = s.bodies in
+    let z = solves_sized s.kernel (words_of b.window.now) (words_of b.samples.now) (words_of b.events.now) s.sound c.requires.0 in
     let q = c.state_count.ensures in
-    let p = part_length c.run_next-from.result c.state_count.result (state_count g.kernel) c.run_next-from.new.values q.0 c.run_next-from.ensures.0 in
+    let p = part_length c.run_next-from.result c.state_count.result (state_count s.kernel) c.run_next-from.new.values q.0 c.run_next-from.ensures.0 in
     record { ended = omega (arith, p, z.0, q.0); told = omega (arith, z.0, z.1) }
 
 pub returns : goal.returns
 returns c =
     let g = c.args in
-    prints_same (next-printout (tolerance_of (words_of g.window.now)) (state_count g.kernel) g.amounts.now g.residual.now _
+    let s = g.sheet.now in
+    prints_same (next-printout (tolerance_of (words_of s.bodies.window.now)) (state_count s.kernel) g.amounts.now g.residual.now _
     c.run_next-from.result c.run_next-from.ensures.1 c.tolerance_of.ensures c.state_count.ensures.0) c.print.ensures

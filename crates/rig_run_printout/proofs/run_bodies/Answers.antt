@@ -14,55 +14,54 @@ use Rattle.rig_run_printout.proofs.run_bodies.Goals as goal
 
 pub overflow_mul-held : goal.overflow_mul-held
 overflow_mul-held c =
-    let h = c.requires in
+    let h = c.args.bodies.now.readable in
     omega (
       arith,
-      cells-most (4 * (length c.args.events.now / event_bytes) + length c.args.samples.now / 8 + 2)
+      cells-most (4 * (length c.args.bodies.now.events.now / event_bytes) + length c.args.bodies.now.samples.now / 8 + 2)
           c.state_count.result (omega (arith, h.samples, h.events)) c.state_count.ensures.1,
     )
 
 pub slice_bounds-initial-end : goal.slice_bounds-initial-end
-slice_bounds-initial-end c = omega (arith, known_five (length c.args.amounts.now / 8), c.known-first.ensures)
+slice_bounds-initial-end c = omega (arith, known_five (length c.args.bodies.now.amounts.now / 8), c.known-first.ensures)
 
 pub slice_bounds-run_cells-end : goal.slice_bounds-run_cells-end
-slice_bounds-run_cells-end c = sym (length-take-le _ _ (omega (arith, known_five (length c.args.amounts.now / 8), c.known-first.ensures)))
+slice_bounds-run_cells-end c = sym (length-take-le _ _ (omega (arith, known_five (length c.args.bodies.now.amounts.now / 8), c.known-first.ensures)))
 
 pub slice_bounds-run_cells-end-2 : goal.slice_bounds-run_cells-end-2
-slice_bounds-run_cells-end-2 c = sym (length-take-le _ _ (omega (arith, c.requires.samples, c.cells-readings.ensures)))
+slice_bounds-run_cells-end-2 c = sym (length-take-le _ _ (omega (arith, c.args.bodies.now.readable.samples, c.cells-readings.ensures)))
 
 pub slice_bounds-run_cells-end-3 : goal.slice_bounds-run_cells-end-3
-slice_bounds-run_cells-end-3 c = sym (length-take-le _ _ (omega (arith, c.requires.samples, c.requires.events, c.cells-times.ensures)))
+slice_bounds-run_cells-end-3 c = sym (length-take-le _ _ (omega (arith, c.args.bodies.now.readable.samples, c.args.bodies.now.readable.events, c.cells-times.ensures)))
 
 pub slice_bounds-run_cells-end-4 : goal.slice_bounds-run_cells-end-4
-slice_bounds-run_cells-end-4 c = sym (length-take-le _ _ (omega (arith, c.requires.samples, c.requires.events, c.side_cells-sides.ensures)))
+slice_bounds-run_cells-end-4 c = sym (length-take-le _ _ (omega (arith, c.args.bodies.now.readable.samples, c.args.bodies.now.readable.events, c.side_cells-sides.ensures)))
 
 pub slice_bounds-values-end : goal.slice_bounds-values-end
 slice_bounds-values-end c =
-    let h = c.requires in
+    let h = c.args.bodies.now.readable in
     omega (
       arith,
-      cells-most (4 * (length c.args.events.now / event_bytes) + length c.args.samples.now / 8 + 2)
+      cells-most (4 * (length c.args.bodies.now.events.now / event_bytes) + length c.args.bodies.now.samples.now / 8 + 2)
           c.state_count.result (omega (arith, h.samples, h.events)) c.state_count.ensures.1,
     )
 
 pub slice_bounds-run_cells-end-5 : goal.slice_bounds-run_cells-end-5
 slice_bounds-run_cells-end-5 c =
-    let h = c.requires in
-    let m = cells-most (4 * (length c.args.events.now / event_bytes) + length c.args.samples.now / 8 + 2)
+    let h = c.args.bodies.now.readable in
+    let m = cells-most (4 * (length c.args.bodies.now.events.now / event_bytes) + length c.args.bodies.now.samples.now / 8 + 2)
     c.state_count.result (omega (arith, h.samples, h.events)) c.state_count.ensures.1 in
     sym (length-take-le _ _ (omega (arith, m, c.cells-values.ensures)))
 
 pub run_cells-requires : goal.run_cells-requires
 run_cells-requires c =
-    let h = c.requires in
-    let ss = c.args.samples.now in
-    let es = c.args.events.now in
+    let h = c.args.bodies.now.readable in
+    let ss = c.args.bodies.now.samples.now in
+    let es = c.args.bodies.now.events.now in
     let n = c.state_count in
     let rows = 4 * (length es / event_bytes) + length ss / 8 + 2 in
     let few : rows ≤ sheet_rows = omega (arith, h.samples, h.events) in
     let same : rows ≡ reckoned_of (words_of ss) (words_of es) = omega (arith, words-length ss, words-length es, reckoned-words (words_of ss) (words_of es)) in (
-      h,
-      length-take-le _ _ (omega (arith, known_five (length c.args.amounts.now / 8), c.known-first.ensures)) ∙ c.known-first.ensures,
+      length-take-le _ _ (omega (arith, known_five (length c.args.bodies.now.amounts.now / 8), c.known-first.ensures)) ∙ c.known-first.ensures,
       length-take-le _ _ (omega (arith, h.samples, c.cells-readings.ensures)),
       length-take-le _ _ (omega (arith, few, c.cells-times.ensures)) ∙ same,
       length-take-le _ _ (omega (arith, few, c.side_cells-sides.ensures)) ∙ same,

@@ -1,31 +1,45 @@
 -- `rig_steady_cycle::steady_bodies` meets its contract.
 use mathlib.Core.Path.{sym, ◌∙◌}
-use native.Mathlib.Omega.{arith}
+use lib.ListN.{replicate}
+use lib.Ieee.{binary64, of_bits}
 use lib.Seq.{length-take-le}
+use native.Mathlib.Omega.{arith}
+use Rattle.limits.specs.Limits.{states}
+use Rattle.linear_pk.specs.LinearPk.{state_count}
+use Rattle.sheet.specs.Sheet.{words_of}
+use Rattle.printout.proofs.Replies.{prints_same}
+use Rattle.rig_steady_cycle.specs.SheetCycle.{steady_read}
+use Rattle.rig_steady_cycle.proofs.Kept.{steady_kept}
+use Rattle.rig_steady_cycle.proofs.Slices.{answer-printout}
 use Rattle.rig_steady_cycle.proofs.steady_bodies.Goals as goal
 
-pub slice_bounds-steady_cells-end : goal.slice_bounds-steady_cells-end
-slice_bounds-steady_cells-end c = sym (length-take-le _ _ (omega (arith, c.requires.1.samples, c.cells-readings.ensures)))
+pub slice_bounds-solution-end : goal.slice_bounds-solution-end
+slice_bounds-solution-end c = c.state_count-n.ensures.1
 
-pub slice_bounds-steady_cells-end-3 : goal.slice_bounds-steady_cells-end-3
-slice_bounds-steady_cells-end-3 c = sym (length-take-le _ _ c.state_count-n.ensures.1)
-
-pub steady_cells-requires : goal.steady_cells-requires
-steady_cells-requires c =
-    let h = c.requires in
-    let n = c.state_count-n.ensures in (
-      h.0,
-      h.1,
-      length-take-le _ _ (omega (arith, h.1.samples, c.cells-readings.ensures)),
-      length-take-le _ _ n.1 ∙ n.0,
-      length-take-le _ _ n.1 ∙ n.0,
-    )
+pub slice_bounds-change-end : goal.slice_bounds-change-end
+slice_bounds-change-end c = c.state_count-n.ensures.1
 
 pub slice_bounds-amounts-end : goal.slice_bounds-amounts-end
-slice_bounds-amounts-end c = c.state_count-n.ensures.1
-
-pub slice_bounds-steady_cells-end-2 : goal.slice_bounds-steady_cells-end-2
-slice_bounds-steady_cells-end-2 c = sym (length-take-le _ _ c.state_count-n.ensures.1)
+slice_bounds-amounts-end c = sym (length-take-le _ _ c.state_count-n.ensures.1)
 
 pub slice_bounds-residual-end : goal.slice_bounds-residual-end
-slice_bounds-residual-end c = c.state_count-n.ensures.1
+slice_bounds-residual-end c = sym (length-take-le _ _ c.state_count-n.ensures.1)
+
+pub solve_bodies-reply-requires : goal.solve_bodies-reply-requires
+solve_bodies-reply-requires c =
+    let n = c.state_count-n.ensures in
+    (length-take-le _ _ n.1 ∙ n.0, length-take-le _ _ n.1 ∙ n.0)
+
+pub print_reply-requires : goal.print_reply-requires
+print_reply-requires c =
+    let n = c.state_count-n in
+    let l = length-take-le n.result (replicate states (of_bits binary64 0)) n.ensures.1 in
+    let a = c.solve_bodies-reply.auto in
+    (omega (arith, l, a.amounts), omega (arith, l, a.residual), n.ensures.1)
+
+pub returns : goal.returns
+returns c =
+    let s = c.args.sheet.now in
+    let b = s.bodies in
+    prints_same (answer-printout (state_count s.kernel) (steady_read s) (steady_kept s.kernel (words_of b.window.now)
+    (words_of b.samples.now) (words_of b.events.now) s.sound) c.solve_bodies-reply.ensures c.state_count-n.ensures.0) c.print_reply.ensures

@@ -1,7 +1,6 @@
 -- `rig_steady_sheet::steady_sheet` meets its contract.
 use mathlib.Core.Path.{ap}
 use Rattle.printout.proofs.Replies.{prints_same}
-use Rattle.sheet_kernel.proofs.Kernels.{kernel_read, inside, kernel-sound, readable}
 use Rattle.sheet_kernel.proofs.Cycles.{bytes_refused, bytes_run}
 use Rattle.printout_steady.specs.SteadyPrintout.{steady_text}
 use Rattle.printout_steady.specs.SteadyReplies.{steady_printout}
@@ -18,25 +17,10 @@ returns-in-Err c =
       out_after = p.cells;
     }
 
-pub body-requires : goal.body-requires
-body-requires c = (inside (kernel_read c.in-Ok.ensures)).window
-
-pub body-requires-in-Ok : goal.body-requires-in-Ok
-body-requires-in-Ok c = (inside (kernel_read c.in-Ok.ensures)).samples
-
-pub body-requires-in-Ok-2 : goal.body-requires-in-Ok-2
-body-requires-in-Ok-2 c = (inside (kernel_read c.in-Ok.ensures)).events
-
-pub steady_bodies-requires : goal.steady_bodies-requires
-steady_bodies-requires c =
-    (kernel-sound (kernel_read c.in-Ok.ensures), readable (kernel_read c.in-Ok.ensures) c.body.ensures c.body-in-Ok.ensures c.body-in-Ok-2.ensures)
-
 pub returns-in-Ok : goal.returns-in-Ok
 unfolding steady_of_bytes steady_sheet
 returns-in-Ok c =
-    let e = bytes_run steady_with (kernel_read c.in-Ok.ensures)
-    c.body.ensures c.body-in-Ok.ensures c.body-in-Ok-2.ensures in
-    let p = prints_same (ap steady_printout e) c.steady_bodies.ensures in record {
+    let p = prints_same (ap steady_printout (bytes_run steady_with _ c.in-Ok.ensures)) c.steady_bodies.ensures in record {
       reply_value = p.number;
       length_value = p.length;
       out_after = p.cells;

@@ -2,7 +2,7 @@
 use mathlib.Core.Path.{ap, ◌∙◌}
 use Rattle.std.proofs.lemmas.Result.{err_from_is_err_and}
 use Rattle.sheet_kernel.specs.Values.{model_of}
-use Rattle.sheet_kernel.proofs.Bodies.{read_at, inside, model_is, model_fits_lem}
+use Rattle.sheet_kernel.proofs.Placed.{read_at, inside, model_is, model_fits_lem}
 use Rattle.sheet_kernel.proofs.Kernels.{unread, unmade, is_read}
 use Rattle.sheet_kernel.proofs.read_kernel.Goals as goal
 
