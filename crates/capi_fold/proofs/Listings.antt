@@ -12,7 +12,7 @@ use lib.ListN.{length, get_or, take, length-append}
 use lib.Seq.{take-suc, take_all, length-take-le, sets-eq}
 use lib.Ieee.{Float}
 use Rattle.limits.specs.Limits.{most_cycle_events, most_events, event_size}
-use Rattle.refusal.specs.Result.{Result, refused, done, unless, number, value_or}
+use Rattle.refusal.specs.Result.{Result, refused, done, unless}
 use Rattle.linear_pk.specs.declared.kernel.LinearPk.{LinearPk}
 use Rattle.events_layout.specs.Layout.{events_fit, events_of}
 use Rattle.events_words.specs.Words.{event_words, list_words}
@@ -93,12 +93,3 @@ pub done-words : (es : List Event) (old new : List ℕ) {o : Result (List Event)
     → (done (length es) ≡ count_of o) × (new ≡ cells_of o old)
 unfolding cells_of
 done-words es old new e l g = rw e (refl, g.cells ∙ rw zero-add at (sets-eq (list_words es) old 0 (omega (arith, words-length es))))
-
--- ---- the two of a fold's count
-pub count_number : (o : Result (List Event)) → number (count_of o) ≡ number o
-count_number (refused n) = refl
-count_number (done es) = refl
-
-pub count_listed : (o : Result (List Event)) → value_or (count_of o) 0 ≡ length (value_or o [])
-count_listed (refused n) = refl
-count_listed (done es) = refl

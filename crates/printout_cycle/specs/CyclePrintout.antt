@@ -1,5 +1,5 @@
 -- One more cycle from the amounts of a closed one, and the bytes that `rig-cycle` prints of it. A text is the list of its bytes. Definitions only.
-use Rattle.std.specs.Prelude.{ℕ, ◌+◌, ◌*◌, Bool, cond, List, [], ◌∷◌, ◌++◌, take, Float}
+use Rattle.std.specs.Prelude.{ℕ, ◌+◌, ◌*◌, Bool, cond, List, [], ◌∷◌, ◌++◌, Float}
 use Rattle.printout.specs.Printout.{refused_text}
 use Rattle.cycle.specs.declared.SteadyStateTolerance.{SteadyStateTolerance}
 use Rattle.cycle.specs.Closed.{Timed, stopped, got}
@@ -24,10 +24,6 @@ lines_text c = cycle_lines c.tolerance c.starts c.ends ++ verdict_line (closes c
 unfoldable pub cycle_text : Timed NextCycle → List ℕ
 cycle_text (stopped number time) = refused_text number time
 cycle_text (got c) = lines_text c
-
--- ---- the cycle in the code's arguments: n states stand in front of the slices
-abbrev pub cycle_of : SteadyStateTolerance → ℕ → List Float → List Float → List Float → NextCycle
-cycle_of tol n starts ends residual = record { tolerance = tol; starts = take n starts; ends = take n ends; residuals = take n residual }
 
 -- ---- the length of the lines
 abbrev pub lines_length : ℕ → Bool → ℕ
