@@ -8,6 +8,7 @@ use lib.Bits.{bit_and, and_mask}
 use lib.Ieee.{Float, nan, inf, fin, Format, binary64, fits, is_nan, to_bits, of_bits}
 use lib.Ieee.Scale.{overflow, finite}
 use lib.Ieee.Bits.{of_bits-to_bits, is_true, is_false}
+use Rattle.std.specs.Float.{float_is_finite}
 use Rattle.binary64.specs.Doubles.{magnitude}
 use Rattle.binary64.proofs.Units.{quanta, quanta_lt, mag, Good}
 use Rattle.binary64.proofs.Patterns.{enc, enc_mono, enc_over, to_bits_mag, to_bits_mod}
@@ -69,3 +70,10 @@ finite64 x p =
     ap (λ (b : ℕ). ltb b 0x7ff0_0000_0000_0000) (and_mask (to_bits binary64 x) 63 ∙ to_bits_mod binary64 x p)
     ∙ ap (λ (b : ℕ). ltb (enc binary64 (mag binary64 x)) b) (sym (enc_over binary64))
     ∙ finite_enc binary64 x p
+
+-- ---- the library's `is_finite`
+pub finite_same : (x : Float) → float_is_finite x ≡ finite x
+unfolding float_is_finite
+finite_same nan = refl
+finite_same (inf s) = refl
+finite_same (fin s m e) = refl

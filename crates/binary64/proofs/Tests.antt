@@ -1,12 +1,11 @@
--- Equal tests, each shown by two implications; and what `x != x` says of x. Assumes nothing.
+-- Equal tests, each shown by two implications; and what `is_nan` says of x. Assumes nothing.
 use mathlib.Core.Path.{◌≡◌, refl, sym, subst}
 use Prim.Native.Nat.{ℕ, ◌≤◌, ◌<◌}
 use native.Mathlib.Nat.{le_of_eq, le_of_lt, eq-or-lt_of_le}
 use mathlib.Core.Bool.{Bool, true, false, not, ◌||◌}
 use mathlib.Core.Logic.{◌⊎◌, inl, inr}
 use lib.Dec.{T, leb, ltb, eqb, leb→le, le→leb, ltb→lt, lt→ltb, eqb→eq}
-use lib.Ieee.{Float, nan, inf, fin, is_nan, ne}
-use lib.Ieee.Compare.{differs_from_itself}
+use lib.Ieee.{Float, nan, inf, fin, is_nan}
 use lib.Ieee.Fits.{eq→eqb}
 
 pub same_test : (a b : Bool) → (T a → T b) → (T b → T a) → a ≡ b
@@ -45,12 +44,12 @@ or_iff a b =
     to (inl e) = in_r (ltb a b) (eqb a b) (eq→eqb e)
     to (inr l) = in_l (ltb a b) (eqb a b) (lt→ltb a b l)
 
--- ---- `x != x`
-pub is_nan_lem : (x : Float) → ne x x ≡ true → x ≡ nan
-is_nan_lem x e = differs_from_itself x (subst T (sym e) tt)
+-- ---- `x.is_nan()`
+pub is_nan_lem : (x : Float) → is_nan x ≡ true → x ≡ nan
+unfolding is_nan
+is_nan_lem nan e = refl
+is_nan_lem (inf s) e = absurd (subst T (sym e) tt)
+is_nan_lem (fin s m e) h = absurd (subst T (sym h) tt)
 
-pub is_real : (x : Float) → ne x x ≡ false → T (not (is_nan x))
-unfolding ne is_nan
-is_real nan e = absurd (subst T e tt)
-is_real (inf s) e = tt
-is_real (fin s m e) h = tt
+pub is_real : (x : Float) → is_nan x ≡ false → T (not (is_nan x))
+is_real x e = subst (λ (b : Bool). T (not b)) (sym e) tt

@@ -4,11 +4,11 @@ use Prim.Native.Nat.{ℕ, suc, ◌+◌, ◌-◌, ◌≤◌}
 use native.Mathlib.Omega.{arith}
 use mathlib.Core.Bool.{Bool, true, false, not, ◌&&◌, ◌||◌, cond, and-true, and-false, or-false}
 use lib.Dec.{T, leb, ltb, eqb}
-use lib.Ieee.{Float, nan, Format, is_nan, lt, eq, ne}
+use lib.Ieee.{Float, nan, Format, is_nan, lt, eq}
 use lib.Ieee.Scale.{overflow}
 use lib.Ieee.Bits.{is_false}
 use Rattle.binary64.specs.Doubles.{negative, total_le, larger, smaller}
-use Rattle.binary64.proofs.Tests.{iff_leb, or_iff, is_nan_lem, is_real}
+use Rattle.binary64.proofs.Tests.{iff_leb, or_iff}
 use Rattle.binary64.proofs.Units.{on_line, spot_line, lt_spot, eq_spot, mag, mag_le, Good}
 
 unfoldable pub rank : Format → Float → ℕ
@@ -61,13 +61,13 @@ abbrev pub choice : Float → Float → Float → Float → Float
 choice x y a b = cond (is_nan y) x (cond (is_nan x) y (cond (total_le x y) a b))
 
 module _ (x y a b : Float) where
-  pub choice_first : ne y y ≡ true → x ≡ choice x y a b
+  pub choice_first : is_nan y ≡ true → x ≡ choice x y a b
   unfolding is_nan
-  choice_first h = rw (is_nan_lem y h)
+  choice_first h = rw h
 
-  pub choice_second : ne y y ≡ false → ne x x ≡ true → y ≡ choice x y a b
+  pub choice_second : is_nan y ≡ false → is_nan x ≡ true → y ≡ choice x y a b
   unfolding is_nan
-  choice_second h k = rw (is_false (is_nan y) (is_real y h), is_nan_lem x k)
+  choice_second h k = rw (h, k)
 
-  pub choice_order : ne y y ≡ false → ne x x ≡ false → (t : Bool) → total_le x y ≡ t → cond t a b ≡ choice x y a b
-  choice_order h k t e = rw (is_false (is_nan y) (is_real y h), is_false (is_nan x) (is_real x k), e)
+  pub choice_order : is_nan y ≡ false → is_nan x ≡ false → (t : Bool) → total_le x y ≡ t → cond t a b ≡ choice x y a b
+  choice_order h k t e = rw (h, k, e)

@@ -19,7 +19,7 @@ pub fn of_bits(bits: u64) -> f64
     ensures { result ≡ of_bits binary64 bits }
 {
     if is_nan_bits(bits) {
-        return 0.0 / 0.0;
+        return f64::NAN;
     }
     f64::from_bits(bits)
 }
@@ -27,10 +27,11 @@ pub fn of_bits(bits: u64) -> f64
 // The largest whole number that is not above x, where x is finite and its sign is clear; else x.
 // e is the exponent's field: from 1075 on x is whole or infinite, and below 1023 x is below 1.
 // Between, the lowest 1075 - e bits are the fraction's, and the mask clears them.
+// By bits: a rule of the project; the library's `floor` rounds a value whose sign is set too, which is handed back here.
 pub fn floor(x: f64) -> f64
     ensures { result ≡ floor_of x }
 {
-    if x != x {
+    if x.is_nan() {
         return x;
     }
     let bits: u64 = f64::to_bits(x);

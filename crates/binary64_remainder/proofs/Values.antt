@@ -2,7 +2,7 @@
 -- power of two. Assumes nothing.
 use mathlib.Core.Path.{◌≡◌, refl, sym, ap, ap₂, ◌∙◌, subst}
 use Prim.Native.Nat.{ℕ, zero, suc, ◌+◌, ◌-◌, ◌*◌, ◌/◌, ◌%◌, ◌^◌, ◌≤◌, ◌<◌}
-use native.Mathlib.Nat.{lt_irrefl, mul_comm, mul_assoc, mul_right_comm, mul-pos, mod-lt, mod-eq_of_lt, mul-add-mod_self_left, mul-lt-mul_of_pos_right, add-mul, mul-add, add-mod, zero-mod, two-pow-succ, div-add-mod, one-mul, mul-one, zero-mul, mul-div_cancel, mul-mod_left, sub-add_cancel, lt_of_lt_of_le, lt_of_le_of_lt, le_of_lt, le_of_eq, mul-le-mul_right}
+use native.Mathlib.Nat.{lt_irrefl, mul_comm, mul_assoc, mul_right_comm, mul-pos, mod-lt, mod-eq_of_lt, mul-add-mod_self_left, mul-lt-mul_of_pos_right, add-mul, mul-add, add-mod, zero-mod, two-pow-succ, div-add-mod, one-mul, mul-one, zero-mul, mul-div_cancel, mul-mod_left, sub-add_cancel, lt_of_lt_of_le, mul-le-mul_right}
 use native.Mathlib.Omega.{arith}
 use mathlib.Core.Bool.{Bool, true, false, not, cond}
 use lib.IntN.{pos}

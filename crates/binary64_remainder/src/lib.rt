@@ -1,4 +1,4 @@
-// The remainder of a division of doubles, worked out from bits: of `%` a compiler makes a call of the C library's `fmod`.
+// The remainder of a division of doubles, worked out from bits.
 #![tactic(auto)]
 
 ghost use Rattle.std.specs.Prelude.{◌≡◌, ◌+◌, ◌*◌, ◌%◌, ◌^◌, ◌<◌, ◌≤◌, false};
@@ -20,11 +20,7 @@ fn digits(bits: u64) -> u64
 fn shift(bits: u64) -> u64
     ensures { result ≡ shift_of bits }
 {
-    let field = bits / 0x0010_0000_0000_0000;
-    if field == 0 {
-        return 0;
-    }
-    field - 1
+    (bits / 0x0010_0000_0000_0000).saturating_sub(1)
 }
 
 // What is left of r doubled `times` times, by q.
@@ -82,13 +78,14 @@ fn of_patterns(a: u64, b: u64) -> f64
 }
 
 // x less the whole part of x / y times y, with x's sign: IEEE's `%`.
+// By bits: of `%` a compiler makes a call of C's `fmod`, and programs and archives need nothing of that library's arithmetic.
 pub fn remainder(x: f64, y: f64) -> f64
     ensures { result ≡ rem binary64 x y }
 {
     if !binary64::is_finite(x) {
-        return 0.0 / 0.0;
+        return f64::NAN;
     }
-    if y != y {
+    if y.is_nan() {
         return y;
     }
     if !binary64::is_finite(y) {
@@ -97,7 +94,7 @@ pub fn remainder(x: f64, y: f64) -> f64
     let a = f64::to_bits(x);
     let b = f64::to_bits(y) % 0x8000_0000_0000_0000;
     if b == 0 {
-        return 0.0 / 0.0;
+        return f64::NAN;
     }
     let r = of_patterns(a % 0x8000_0000_0000_0000, b);
     if a < 0x8000_0000_0000_0000 { r } else { -r }

@@ -9,8 +9,8 @@ ghost use Rattle.capi_fold.specs.Words.{fold_words, cells_of};
 ghost use Rattle.periodic_acceptance.specs.Entry.{steady_room};
 ghost use Rattle.capi_steady.specs.Words.{steady_words};
 
+use crate::run::window_from;
 use cycle::SteadyStateTolerance;
-use protocol::Window;
 
 #[unsafe(no_mangle)]
 pub extern "C" fn linear_pk_normalize_periodic_cycle(
@@ -36,15 +36,15 @@ pub extern "C" fn linear_pk_normalize_periodic_cycle(
         (window_from start end rtol atol propagations event_budget output_budget) events.now samples.now
         (length folded.old)) folded.old }
 {
-    let window = Window {
+    let window = window_from(
         start,
         end,
         rtol,
         atol,
         propagations,
-        events: event_budget,
-        outputs: output_budget,
-    };
+        event_budget,
+        output_budget,
+    );
     match capi_fold::fold_words(
         capi_kernel_cells::kernel_at(kernel),
         window,
@@ -58,7 +58,7 @@ pub extern "C" fn linear_pk_normalize_periodic_cycle(
         }
         Err(refusal) => {
             *count = 0;
-            refusal::number(Err(refusal))
+            u64::from(refusal)
         }
     }
 }
@@ -96,15 +96,15 @@ pub extern "C" fn linear_pk_periodic_steady_state(
         (record { absolute = absolute; relative = relative }) (steady_room (kernel_at kernel.now)
         (length amounts.old) (length residual.old))) residual.old }
 {
-    let window = Window {
+    let window = window_from(
         start,
         end,
         rtol,
         atol,
         propagations,
-        events: event_budget,
-        outputs: output_budget,
-    };
+        event_budget,
+        output_budget,
+    );
     let tolerance = SteadyStateTolerance { absolute, relative };
     match capi_steady::steady_words(
         capi_kernel_cells::kernel_at(kernel),
@@ -123,7 +123,7 @@ pub extern "C" fn linear_pk_periodic_steady_state(
         Err(stop) => {
             *time = stop.time;
             *maximum = 0.0;
-            refusal::number(Err(stop.refusal))
+            u64::from(stop.refusal)
         }
     }
 }

@@ -27,7 +27,7 @@ pub extern "C" fn linear_pk_new(
     ensures kernel_after { kernel.new ≡ slice_at_exit (new_cells clearance volumes.now exchange.now
         (absorption_of depot absorption) (length kernel.old)) kernel.old }
 {
-    capi_kernel::new(clearance, volumes, exchange, depot, absorption, kernel)
+    refusal::number(capi_kernel::new(clearance, volumes, exchange, depot, absorption, kernel))
 }
 
 #[unsafe(no_mangle)]
@@ -68,5 +68,5 @@ pub extern "C" fn linear_pk_bind(kernel: &[f64], initial: &[f64], bound: &mut [f
     ensures bound_after { bound.new ≡ slice_at_exit (bind_cells (kernel_at kernel.now) initial.now
         (length bound.old)) bound.old }
 {
-    capi_kernel::bind(kernel, initial, bound)
+    refusal::number(capi_kernel::bind(kernel, initial, bound))
 }

@@ -10,6 +10,30 @@ ghost use Rattle.capi_kernel.specs.Cells.{kernel_at};
 ghost use Rattle.capi_run.specs.Run.{window_from, simulate_words};
 
 use protocol::Window;
+use simulation_report::Report;
+
+// The window of what a C program passes.
+pub(crate) fn window_from(
+    start: f64,
+    end: f64,
+    rtol: f64,
+    atol: f64,
+    propagations: u64,
+    event_budget: usize,
+    output_budget: usize,
+) -> Window
+    ensures { result ≡ window_from start end rtol atol propagations event_budget output_budget }
+{
+    Window {
+        start,
+        end,
+        rtol,
+        atol,
+        propagations,
+        events: event_budget,
+        outputs: output_budget,
+    }
+}
 
 #[unsafe(no_mangle)]
 pub extern "C" fn linear_pk_simulate(
@@ -48,16 +72,16 @@ pub extern "C" fn linear_pk_simulate(
         (window_from start end rtol atol propagations event_budget output_budget) events.now samples.now
         (room (length times.old) (length sides.old) (length values.old))) values.old }
 {
-    let window = Window {
+    let window = window_from(
         start,
         end,
         rtol,
         atol,
         propagations,
-        events: event_budget,
-        outputs: output_budget,
-    };
-    let told = capi_run::simulate_words(
+        event_budget,
+        output_budget,
+    );
+    let reply = capi_run::simulate_words(
         capi_kernel_cells::kernel_at(kernel),
         amounts,
         window,
@@ -67,6 +91,7 @@ pub extern "C" fn linear_pk_simulate(
         sides,
         values,
     );
+    let told = Report::from(reply);
     *time = told.time;
     *rows = told.rows;
     *advances = told.advances;

@@ -1,9 +1,7 @@
 // A kernel and a bound kernel as cells, doubles in a slice: read and written.
 #![tactic(auto)]
 
-ghost use Rattle.std.specs.Prelude.{◌≡◌, ◌≤◌, ◌+◌, ◌<◌, length, cond, pos};
-ghost use Rattle.std.specs.Float.{binary64};
-ghost use Rattle.std.specs.Float.Ieee.{eq, of_int};
+ghost use Rattle.std.specs.Prelude.{◌≡◌, ◌≤◌, ◌+◌, ◌<◌, length};
 ghost use Rattle.limits.specs.Limits.{most_volumes, rate_cells, kernel_cells, bound_cells};
 ghost use Rattle.matrix.specs.Matrix.{tabulate, cell};
 ghost use Rattle.capi_kernel_cells.specs.Reading.{first_rate, absorption_of, count_at, kernel_at};
@@ -23,18 +21,14 @@ pub fn absorption_of(depot: bool, absorption: f64) -> Option<f64>
     depot.then_some(absorption)
 }
 
-// k where x is that number, else the count.
-fn count_or(count: usize, k: u32, x: f64) -> usize
-    ensures { result ≡ cond (eq x (of_int binary64 (pos k))) k count }
-{
-    if x == k as f64 { k as usize } else { count }
-}
-
 // The number of volumes that a double is; 0 where it is none.
 fn count_at(x: f64) -> usize
     ensures { result ≡ count_at x }
 {
-    (1..VOLUMES as u32 + 1).fold(0, |count, k| count_or(count, k, x))
+    (1..VOLUMES as u32 + 1)
+        .rev()
+        .find(|k| x == *k as f64)
+        .unwrap_or(0) as usize
 }
 
 // As many cells from a place on as the array has.
@@ -45,17 +39,18 @@ fn cells_from<const N: usize>(cells: &[f64], from: usize) -> [f64; N]
     array::from_fn(|i| cells[i + from])
 }
 
-// The kernel that cells hold; one of no volumes where they hold none.
+// The kernel that cells hold.
+// By number: cells that hold none are a kernel of no volumes, with 0 states, which each other entry refuses by its own test.
 #[tactic(auto, unfolding(crate::specs::Reading::kernel_at))]
 pub fn kernel_at(cells: &[f64]) -> LinearPk
     ensures { result ≡ kernel_at cells.now }
 {
     if cells.len() < KERNEL_CELLS {
-        return linear_pk::none();
+        return LinearPk::default();
     }
     let depot = cells[1];
     if !((depot == 0.0) | (depot == 1.0)) {
-        return linear_pk::none();
+        return LinearPk::default();
     }
     let compartments = count_at(cells[0]);
     let volumes = cells_from(cells, 2);

@@ -6,16 +6,17 @@ ghost use Rattle.linear_pk.specs.LinearPk.{state_count};
 ghost use Rattle.events_layout.specs.Layout.{events_of};
 ghost use Rattle.protocol.specs.Prepare.{reckoned};
 ghost use Rattle.protocol.specs.Entry.{report_of, times_at_exit, sides_at_exit, values_at_exit};
-ghost use Rattle.simulation.specs.Entries.{room, reported};
+ghost use Rattle.simulation_report.specs.Replies.{room, run_reply};
 ghost use Rattle.capi_run.specs.Run.{simulate_words};
 
 use limits::{EVENT_SIZE, EVENTS};
 use linear_pk::LinearPk;
 use protocol::Window;
 use refusal::Refusal;
-use simulation_report::{Report, RunError};
+use simulation_report::{Reached, RunError};
 
 // A run of the events that the words hold: 40 where they are none.
+// By the C interface: each stands behind a pointer of its own, so that one kernel and one window serve runs from many amounts.
 pub fn simulate_words(
     kernel: LinearPk,
     amounts: &[f64],
@@ -25,8 +26,8 @@ pub fn simulate_words(
     times: &mut [f64],
     sides: &mut [u8],
     values: &mut [f64],
-) -> Report
-    ensures result_value { reported result ≡ report_of (simulate_words kernel amounts.now window events.now samples.now
+) -> Result<Reached, RunError>
+    ensures result_value { run_reply result ≡ report_of (simulate_words kernel amounts.now window events.now samples.now
         (room (length times.old) (length sides.old) (length values.old))) }
     ensures times_after { times.new ≡ times_at_exit (reckoned samples.now (events_of events.now))
         (simulate_words kernel amounts.now window events.now samples.now
@@ -39,13 +40,13 @@ pub fn simulate_words(
         (room (length times.old) (length sides.old) (length values.old))) values.old }
 {
     if !events_layout::events_fit(events) {
-        return simulation_report::report_of(Err(RunError::Refused(Refusal::Layout)));
+        return Err(Refusal::Layout.into());
     }
     if events.len() / EVENT_SIZE > EVENTS {
-        return simulation_report::report_of(Err(RunError::Refused(Refusal::Limit)));
+        return Err(Refusal::Limit.into());
     }
     let list = events_layout::events_of(events);
-    simulation_report::report_of(simulation::simulate(
+    simulation::simulate(
         kernel,
         amounts,
         window,
@@ -54,5 +55,5 @@ pub fn simulate_words(
         times,
         sides,
         values,
-    ))
+    )
 }

@@ -1,5 +1,5 @@
 // The closed cycle of events that are laid out as words, six to an event, for the C interface.
-// By the entry: the parameters are those of `periodic::periodic_steady_state`, with words for events.
+// By the C interface: C gives these one by one, and they part at once, as words become events; a struct would live for that call.
 #![tactic(auto)]
 
 ghost use Rattle.std.specs.Prelude.{◌≡◌, length};

@@ -7,7 +7,7 @@ use Rattle.std.specs.Float.{binary64}
 use Rattle.std.specs.Float.Ieee.{add, sub, mul, div, rem, lt, le}
 use Rattle.std.specs.Float.Ieee.Scale.{finite}
 use Rattle.binary64.specs.Doubles.{plus_zero, one, nonnegative, positive, smaller, floor_of}
-use Rattle.binary64.specs.Lists.{any, all, pick}
+use Rattle.binary64.specs.Lists.{any, pick}
 use Rattle.refusal.specs.Result.{Result, refused, done, and_then, unless}
 use Rattle.protocol.specs.declared.Event.{Event}
 use Rattle.protocol.specs.declared.Event.TheVariants.{Bolus, Infusion, Reset}

@@ -1,5 +1,5 @@
 // Single steps at a boundary: the state is checked, or a reset or a bolus is applied and the state checked.
-// By fixed memory: n, the count of a kernel's states, stands beside arrays of the most states, since there is no heap.
+// By fixed memory: the amounts are the first n of an array of the most states, since there is no heap.
 #![tactic(auto)]
 
 ghost use Rattle.std.specs.Prelude.{◌≡◌, ◌≤◌, take, [], ◌∷◌};
@@ -14,6 +14,14 @@ use limits::STATES;
 use protocol::Event;
 use refusal::Refusal;
 use rows::{Progress, Stopped};
+
+// A time t of a run of n states.
+#[derive(Clone, Copy)]
+pub struct Instant {
+    pub n: usize,
+    pub t: f64,
+    ghost within: { n ≤ states },
+}
 
 // Whether each of the n amounts is finite and at least 0.
 pub fn check_state(n: usize, amounts: [f64; STATES]) -> bool
@@ -51,32 +59,29 @@ pub fn dose(event: &Event, n: usize, amounts: [f64; STATES]) -> [f64; STATES]
 }
 
 // On with these amounts, or 31 at t.
-fn tested(n: usize, t: f64, start: Progress, amounts: [f64; STATES]) -> Result<Progress, Stopped>
-    requires { n ≤ states }
-    ensures { result ≡ checked_with n t start amounts }
+fn tested(at: Instant, start: Progress, amounts: [f64; STATES]) -> Result<Progress, Stopped>
+    ensures { result ≡ checked_with at.n at.t start amounts }
 {
     let p = start.with_amounts(amounts);
-    if check_state(n, amounts) {
+    if check_state(at.n, amounts) {
         return Ok(p);
     }
-    Err(p.stopped_by(Refusal::State, t))
+    Err(p.stopped_by(Refusal::State, at.t))
 }
 
 // The state at t is checked.
-pub fn check_at(n: usize, t: f64, start: Progress) -> Result<Progress, Stopped>
-    requires { n ≤ states }
-    ensures { Takes n start (check t ∷ []) result }
+pub fn check_at(at: Instant, start: Progress) -> Result<Progress, Stopped>
+    ensures { Takes at.n start (check at.t ∷ []) result }
 {
     let amounts = start.amounts;
-    tested(n, t, start, amounts)
+    tested(at, start, amounts)
 }
 
 // A reset or a bolus at t, and the state checked.
-pub fn apply_one(event: &Event, n: usize, t: f64, start: Progress) -> Result<Progress, Stopped>
-    requires { n ≤ states }
-    ensures { Takes n start (apply t event.now ∷ []) result }
+pub fn apply_one(event: &Event, at: Instant, start: Progress) -> Result<Progress, Stopped>
+    ensures { Takes at.n start (apply at.t event.now ∷ []) result }
 {
     let amounts = start.amounts;
-    let next = dose(event, n, amounts);
-    tested(n, t, start, next)
+    let next = dose(event, at.n, amounts);
+    tested(at, start, next)
 }

@@ -1,5 +1,5 @@
 // Gaussian elimination with partial pivoting and back substitution.
-// By fixed memory: matrices are arrays of a fixed width, since there is no heap, of which the leading n by n part is in use.
+// By fixed memory: n of the most rows and columns are in use, without a heap; `solve` makes a `System` of them, which keeps n ≤ states.
 #![tactic(auto)]
 
 ghost use Rattle.std.specs.Prelude.{◌≡◌, ◌≤◌, take};
@@ -10,6 +10,7 @@ ghost use Rattle.refusal.specs.Numbers.{outcome_with};
 ghost use Rattle.cycle.specs.Elimination.{system_cell, solve as solveOf};
 
 use elimination_steps::{right, table};
+use elimination_system::System;
 use elimination_system::entries::at;
 use limits::STATES;
 use refusal::Refusal;
@@ -31,19 +32,18 @@ pub fn solve(
     requires { n ≤ states }
     ensures { outcome_with (take n) result ≡ solveOf n (record { matrix = lead n matrix; right = take n right }) }
 {
-    let least = elimination_system::pivot::least(&matrix, n);
-    let mut a = matrix;
-    let mut b = right;
+    let mut system = System { n, matrix, right };
+    let least = system.least_pivot();
     // By index: column k has its pivot at row k.
     for k in 0..n {
-        let p = elimination_system::pivot::row(&a, n, k);
-        if !elimination_system::pivot::passes(least, at(&a, p, k)) {
+        let p = system.pivot_row(k);
+        if !elimination_system::pivot::passes(least, at(&system.matrix, p, k)) {
             return Err(Refusal::Pivot);
         }
-        a.swap(k, p);
-        b.swap(k, p);
-        b = right::reduced(&a, b, k);
-        a = table::reduced(&a, k);
+        system.matrix.swap(k, p);
+        system.right.swap(k, p);
+        system.right = right::reduced(&system, k);
+        system.matrix = table::reduced(&system.matrix, k);
     }
-    Ok(elimination_steps::substitution::solved(&a, b, n))
+    Ok(elimination_steps::substitution::solved(&system))
 }

@@ -1,4 +1,5 @@
 // Tables of cells, over the whole width.
+// By table: one function of both would take the cell as a closure, and its contract would name what each call at i, j < states gives.
 ghost use Rattle.std.specs.Prelude.{◌≡◌, ◌<◌};
 ghost use Rattle.limits.specs.Limits.{states};
 ghost use Rattle.matrix.specs.Matrix.{tabulate};

@@ -1,34 +1,49 @@
 -- The pivot of a column, in the words of the code.
-use mathlib.Core.Path.{◌≡◌, ◌∙◌}
+use mathlib.Core.Path.{◌≡◌, refl, ◌∙◌}
 use mathlib.Core.Bool.{Bool, true, false, cond}
-use Prim.Native.Nat.{ℕ, suc, ◌+◌, ◌-◌, ◌≤◌, ◌<◌}
+use Prim.Native.Nat.{ℕ, zero, suc, ◌+◌, ◌-◌, ◌≤◌, ◌<◌}
 use native.Mathlib.Omega.{arith}
-use native.Mathlib.Numerals.{add-one}
+use native.Mathlib.Nat.{add-zero, zero-add}
+use Rattle.std.specs.List.{fold, range_with_len}
 use Rattle.binary64.specs.Doubles.{magnitude, total_le}
 use Rattle.matrix.specs.Matrix.{Matrix, at}
 use Rattle.matrix.specs.Arrays.{lead}
 use Rattle.cycle.specs.Elimination.{pivot_to, pivot_of}
 use Rattle.matrix.proofs.Rows.{lead-at}
 
--- one row more, of the e that stand behind row k
 module _ (n : ℕ) (a : Matrix) (k : ℕ) where
-  pub pivot-more :
-      (d e : ℕ) {p q : ℕ} → d < e → k + e < n → (d ≤ e) × (p ≡ pivot_to (lead n a) k d) × (p ≤ k + d)
-      → q ≡ cond (total_le (magnitude (at a p k)) (magnitude (at a (k + (d + 1)) k))) (k + (d + 1)) p
-      → (d + 1 ≤ e) × (q ≡ pivot_to (lead n a) k (d + 1)) × (q ≤ k + (d + 1))
+  -- the row of the larger magnitude
+  abbrev pub larger_row : ℕ → ℕ → ℕ
+  larger_row p i = cond (total_le (magnitude (at a p k)) (magnitude (at a i k))) i p
+
+  -- p is the pivot's row among the first e + 1
+  abbrev Pivot : ℕ → ℕ → Type 0
+  Pivot p e = (p ≡ pivot_to (lead n a) k e) × (p ≤ k + e)
+
+  pivot-more : (p e : ℕ) → k + suc e < n → Pivot p e → Pivot (larger_row p (k + suc e)) (suc e)
   unfolding pivot_to
-  pivot-more d e {p} l b (_, h, m) r = (omega arith, r ∙ value, rw r (on (total_le (magnitude (at a p k)) (magnitude (at a (k + (d + 1)) k)))))
+  pivot-more p e b (h, m) = (value, on (total_le (magnitude (at a p k)) (magnitude (at a (k + suc e) k))))
     where
-      on : (b : Bool) → cond b (k + (d + 1)) p ≤ k + (d + 1)
+      on : (b : Bool) → cond b (k + suc e) p ≤ k + suc e
       on true = omega arith
       on false = omega arith
 
-      value : cond (total_le (magnitude (at a p k)) (magnitude (at a (k + (d + 1)) k))) (k + (d + 1)) p ≡ pivot_to (lead n a) k (d + 1)
-      value = rw (← lead-at n a p k (omega arith) (omega arith), ← lead-at n a (k + (d + 1)) k (omega arith) (omega arith), h, add-one)
+      value : larger_row p (k + suc e) ≡ pivot_to (lead n a) k (suc e)
+      value = rw (← lead-at n a p k (omega arith) (omega arith), ← lead-at n a (k + suc e) k (omega arith) (omega arith), h)
 
-  pub pivot_all : (d e : ℕ) {p : ℕ} → k + e < n → n ≤ suc (k + e) → e ≤ d → (d ≤ e) × (p ≡ pivot_to (lead n a) k d) × (p ≤ k + d)
-      → (p ≡ pivot_of n (lead n a) k) × (p < n)
-  unfolding pivot_of
-  pivot_all d e b t l (u, h, m) =
-      let f : d ≡ n - suc k = omega arith in
-      (rw f at h, omega arith)
+  pivot-rows : (d p e : ℕ) → k + (e + d) < n → Pivot p e → Pivot (fold larger_row p (range_with_len (k + suc e) d)) (e + d)
+  pivot-rows zero p e b h = rw (add-zero e) h
+  pivot-rows (suc d) p e b h =
+      let next : k + suc e + 1 ≡ k + suc (suc e) = omega arith in
+      let all : e + suc d ≡ suc e + d = omega arith in
+      rw (next, all) (pivot-rows d (larger_row p (k + suc e)) (suc e) (omega arith) (pivot-more p e (omega arith) h))
+
+  pub pivot_all : {q : ℕ} → k < n → q ≡ fold larger_row k (range_with_len (k + 1) (n - (k + 1))) → (q ≡ pivot_of n (lead n a) k) × (q < n)
+  unfolding pivot_of pivot_to
+  pivot_all {q} l e =
+      let rows : Pivot (fold larger_row k (range_with_len (k + 1) (n - suc k))) (n - suc k) =
+      rw zero-add at (pivot-rows (n - suc k) k 0 (omega arith) (refl, omega arith)) in
+      let count : n - (k + 1) ≡ n - suc k = omega arith in
+      let at_row : q ≡ fold larger_row k (range_with_len (k + 1) (n - suc k)) = rw count at e in
+      let most : q ≤ k + (n - suc k) = rw at_row rows.1 in
+      (at_row ∙ rows.0, omega arith)

@@ -1,4 +1,5 @@
 // The entries of a system: of the array that has it, of the system of a cycle, and of a system with one column reduced.
+// By index: i < states and j < states are the bounds of the array's own two indices; an index type would be unwrapped at each of them.
 ghost use Rattle.std.specs.Prelude.{◌≡◌, ◌<◌};
 ghost use Rattle.limits.specs.Limits.{states};
 ghost use Rattle.matrix.specs.Matrix.{at as at_of};

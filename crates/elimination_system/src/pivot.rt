@@ -6,18 +6,11 @@ ghost use Rattle.matrix.specs.Matrix.{at as at_of};
 ghost use Rattle.matrix.specs.Arrays.{lead};
 ghost use Rattle.cycle.specs.Elimination.{least_pivot, pivot_of, pivot_passes};
 
+use crate::System;
 use crate::entries::at;
 use limits::STATES;
 
-// 64 times the distance from 1 to the next double, times the norm or 1.
-pub fn least(a: &[[f64; STATES]; STATES], n: usize) -> f64
-    requires { n ≤ states }
-    ensures { result ≡ least_pivot n (lead n a.now) }
-{
-    64.0 * 2.220446049250313e-16 * binary64_order::max(exponential_norm::norm(a, n), 1.0)
-}
-
-// The row of the larger magnitude in column k, i where they are level.
+// The row of the larger magnitude in column k, i where they are equal.
 fn larger(a: &[[f64; STATES]; STATES], k: usize, p: usize, i: usize) -> usize
     requires { (k < states) × (p < states) × (i < states) }
     ensures { result ≡ cond (total_le (magnitude (at_of a.now p k)) (magnitude (at_of a.now i k))) i p }
@@ -29,17 +22,26 @@ fn larger(a: &[[f64; STATES]; STATES], k: usize, p: usize, i: usize) -> usize
     }
 }
 
-// The row of the largest magnitude in column k among the rows k .. n - 1, the last among equals.
-pub fn row(a: &[[f64; STATES]; STATES], n: usize, k: usize) -> usize
-    requires { (k < n) × (n ≤ states) }
-    ensures { (result ≡ pivot_of n (lead n a.now) k) × (result < n) }
-{
-    let mut p = k;
-    // By index: the number of the row is the answer.
-    for d in 0..n - 1 - k {
-        p = larger(a, k, p, k + (d + 1));
+impl System {
+    // 64 times the distance from 1 to the next double, times the norm or 1.
+    pub fn least_pivot(&self) -> f64
+        ensures { result ≡ least_pivot self.now.n (lead self.now.n self.now.matrix) }
+    {
+        64.0 * f64::EPSILON * binary64_order::max(exponential_norm::norm(&self.matrix, self.n), 1.0)
     }
-    p
+
+    // The row of the largest magnitude in column k among the rows k .. n - 1, the last among equals.
+    pub fn pivot_row(&self, k: usize) -> usize
+        requires { k < self.now.n }
+        ensures { (result ≡ pivot_of self.now.n (lead self.now.n self.now.matrix) k) × (result < self.now.n) }
+    {
+        (k + 1..self.n).fold(
+            k,
+            |p, i|
+                requires { (k < states) × (p < states) × (i < states) }
+            { larger(&self.matrix, k, p, i) },
+        )
+    }
 }
 
 // Whether a pivot is finite and above the least.

@@ -1,12 +1,11 @@
 -- The rates of n states: the events that are left, added to the rates so far, give the whole sum.
 use mathlib.Core.Path.{◌≡◌, refl, ap, ap₂, sym, ◌∙◌}
 use mathlib.Core.Logic.{◌⊎◌, inl, inr}
-use mathlib.Core.Bool.{Bool, true, false, cond}
+use mathlib.Core.Bool.{Bool, true, cond}
 use mathlib.Core.List.{List, [], ◌∷◌}
-use Prim.Native.Nat.{ℕ, ◌<◌, ◌≤◌}
-use native.Mathlib.Omega.{arith}
-use lib.ListN.{get_or, set, take, length-take}
-use lib.Seq.{get_or-take, take-set-lt, set_out}
+use Prim.Native.Nat.{ℕ, ◌<◌}
+use lib.ListN.{get_or, set, take}
+use lib.Seq.{get_or-take, take-set-lt}
 use lib.Ieee.{Float, nan, binary64, add}
 use Rattle.protocol.specs.Events.{target}
 use Rattle.protocol.specs.Schedule.{with_rate, with_rates, flows, infusion_rate, add_to}
@@ -30,16 +29,8 @@ rates-done n t {xs} {ys} r (inr q) g = no_marks xs ∙ rw q at g
     no_marks (e ∷ es) = refl
 
 module _ (n : ℕ) (t : Float) (e : Event) (m : Bool) {f : Bool} (p : f ≡ flows t e m) (r : List Float) where
-  pub rate_skip : f ≡ false → take n r ≡ with_rate t e m (take n r)
-  rate_skip q = sym (ap (λ (b : Bool). cond b (add_to (take n r) (target e) (infusion_rate e)) (take n r)) (sym p ∙ q))
-
   rate_add : f ≡ true → with_rate t e m (take n r) ≡ add_to (take n r) (target e) (infusion_rate e)
   rate_add q = ap (λ (b : Bool). cond b (add_to (take n r) (target e) (infusion_rate e)) (take n r)) (sym p ∙ q)
-
-  pub rate_beyond : (i : ℕ) → f ≡ true → i ≡ target e → n ≤ i → take n r ≡ with_rate t e m (take n r)
-  rate_beyond i q k h =
-      sym (rate_add q ∙ set_out (take n r) (target e) (add binary64 (get_or (take n r) (target e) nan) (infusion_rate e))
-      (omega (arith, length-take n r)))
 
   pub rate_put : (i : ℕ) {x : Float} → f ≡ true → i ≡ target e → x ≡ infusion_rate e → i < n
       → take n (set r i (add binary64 (get_or r i nan) x)) ≡ with_rate t e m (take n r)

@@ -6,6 +6,7 @@ ghost use Rattle.events_at.specs.At.{happens};
 use protocol::Event;
 
 // Whether the event, or its end, is at t.
+#[tactic(auto, using(events_times::proofs::Either::or_none))]
 fn happens_at(t: f64, event: &Event) -> bool
     ensures { result ≡ happens t event.now }
 {

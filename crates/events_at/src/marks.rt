@@ -11,11 +11,7 @@ use protocol::Event;
 fn stops_at(t: f64, event: &Event) -> bool
     ensures { result ≡ stops_at t event.now }
 {
-    match event {
-        Event::Bolus { .. } => false,
-        Event::Infusion { .. } => false,
-        Event::Reset { time, stops, .. } => (*time == t) & *stops,
-    }
+    matches!(event, Event::Reset { time, stops, .. } if (*time == t) & *stops)
 }
 
 // An infusion on the target with time < t < end.
@@ -23,16 +19,11 @@ fn stops_at(t: f64, event: &Event) -> bool
 fn runs(t: f64, target: usize, event: &Event) -> bool
     ensures { result ≡ running t target event.now }
 {
-    match event {
-        Event::Bolus { .. } => false,
-        Event::Infusion {
-            time,
-            target: i,
-            duration,
-            ..
-        } => (target == *i) & ((*time < t) & (t < *time + *duration)),
-        Event::Reset { .. } => false,
-    }
+    matches!(
+        event,
+        Event::Infusion { time, target: i, duration, .. }
+            if (target == *i) & ((*time < t) & (t < *time + *duration))
+    )
 }
 
 // The infusions that run on the target at t are marked; marks behind those of the events stay.
@@ -40,6 +31,7 @@ fn mark_by(events: &[Event], t: f64, target: usize, marks: &mut [bool])
     requires { length events.now ≤ length marks.old }
     ensures { marks.new ≡ marked_by t target events.now marks.old ++ drop (length events.now) marks.old }
 {
+    // By index: tried as a zip with `iter_mut`, whose invariant names nothing that the marks hold, so that the proof did not close.
     for (i, event) in events.iter().enumerate() {
         marks[i] |= runs(t, target, event);
     }

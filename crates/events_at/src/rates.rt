@@ -12,15 +12,14 @@ use protocol::Event;
 fn flows(t: f64, event: &Event, marked: bool) -> bool
     ensures { result ≡ flowsOf t event.now marked }
 {
-    match event {
-        Event::Bolus { .. } => false,
-        Event::Infusion { time, duration, .. } => {
-            !marked & ((*time <= t) & (t < *time + *duration))
-        }
-        Event::Reset { .. } => false,
-    }
+    matches!(
+        event,
+        Event::Infusion { time, duration, .. } if !marked & ((*time <= t) & (t < *time + *duration))
+    )
 }
 
+// Asked of what flows, which is an infusion alone.
+// By definition: the rate of another event is 0 in `infusion_rate` too, so that the contract holds of every event and asks nothing.
 #[tactic(auto, unfolding(protocol::specs::Schedule::infusion_rate))]
 fn rate_of(event: &Event) -> f64
     ensures { result ≡ infusion_rate event.now }

@@ -1,53 +1,49 @@
 // The boundaries of a run.
 #![tactic(auto)]
 
-ghost use Rattle.std.specs.Prelude.{◌≡◌, ◌++◌, ◌≤◌, ◌+◌, T, length};
+ghost use Rattle.std.specs.Prelude.{◌≡◌, ◌++◌, ◌≤◌, ◌+◌, ◌*◌, T, length, take, drop};
 ghost use Rattle.std.specs.Float.{binary64};
 ghost use Rattle.std.specs.Float.Ieee.{fits};
-ghost use Rattle.arrayvec.specs.ArrayVec.{array_vec_len};
-ghost use Rattle.limits.specs.Limits.{most_events, most_boundaries};
 ghost use Rattle.binary64.specs.Lists.{all};
 ghost use Rattle.protocol.specs.Events.{instants, boundary_times, boundaries as boundariesOf};
 
-use arrayvec::ArrayVec;
-use limits::BOUNDARIES;
 use protocol::{Event, Window};
 
-pub type Boundaries = ArrayVec<f64, BOUNDARIES>;
-
-// The event's time, and an infusion's end.
-fn lay_event(event: &Event, bounds: &mut Boundaries)
-    requires { array_vec_len bounds.old + 2 ≤ most_boundaries }
-    ensures { (bounds.new.items ≡ bounds.old.items ++ instants event.now)
-        × (array_vec_len bounds.new ≤ array_vec_len bounds.old + 2) }
+// The event's time, and an infusion's end, in front; how many.
+fn lay_event(event: &Event, room: &mut [f64]) -> usize
+    requires { 2 ≤ length room.old }
+    ensures { (result ≡ length (instants event.now)) × (result ≤ 2) × (room.new ≡ instants event.now ++ drop result room.old) }
 {
-    bounds.push(event.time());
+    room[0] = event.time();
     if let Event::Infusion { time, duration, .. } = event {
-        bounds.push(*time + *duration);
+        room[1] = *time + *duration;
+        return 2;
     }
+    1
 }
 
-// Start, end, and each event's time and end.
+// Start, end, and each event's time and end; how many.
 // By the event: an infusion lays two times, another event one; nothing is copied.
-fn lay(window: Window, events: &[Event], bounds: &mut Boundaries)
-    requires { length events.now ≤ most_events }
-    ensures { bounds.new.items ≡ boundary_times window.start window.end events.now }
+fn lay(window: Window, events: &[Event], bounds: &mut [f64]) -> usize
+    requires { 2 + 2 * length events.now ≤ length bounds.old }
+    ensures { (result ≤ length bounds.new) × (take result bounds.new ≡ boundary_times window.start window.end events.now) }
 {
-    bounds.clear();
-    bounds.push(window.start);
-    bounds.push(window.end);
+    bounds[0] = window.start;
+    bounds[1] = window.end;
+    let mut n = 2usize;
     for event in events {
-        lay_event(event, bounds);
+        n += lay_event(event, &mut bounds[n..]);
     }
+    n
 }
 
-// The boundaries, in order and each once.
-pub fn boundaries(window: Window, events: &[Event], bounds: &mut Boundaries)
-    requires { length events.now ≤ most_events }
-    ensures { (bounds.new.items ≡ boundariesOf window events.now)
+// The boundaries, in order and each once; how many.
+// By room: any slice that has it is taken, whatever type a caller keeps its times in.
+pub fn boundaries(window: Window, events: &[Event], bounds: &mut [f64]) -> usize
+    requires { 2 + 2 * length events.now ≤ length bounds.old }
+    ensures { (result ≤ length bounds.new) × (take result bounds.new ≡ boundariesOf window events.now)
         × T (all (fits binary64) (boundary_times window.start window.end events.now)) }
 {
-    lay(window, events, bounds);
-    let kept = events_times::sorted_unique(bounds.as_mut_slice());
-    bounds.truncate(kept);
+    let n = lay(window, events, bounds);
+    events_times::sorted_unique(&mut bounds[..n])
 }

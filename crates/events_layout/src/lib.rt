@@ -17,6 +17,7 @@ pub trait Words {
     fn count(&self) -> usize
         ensures { result ≡ length (words self.now) };
 
+    // By word: `Index` would lend a `&u64`, and a sheet's bytes hold none to lend.
     fn word(&self, i: usize) -> u64
         requires { i < length (words self.now) }
         ensures { result ≡ get_or (words self.now) i 0 };
@@ -29,6 +30,7 @@ impl<'a> Words for &'a [u64] {
         self.len()
     }
 
+    // By word: the trait's method, where `Index` would lend a `&u64` that a sheet's bytes do not hold.
     fn word(&self, i: usize) -> u64 {
         self[i]
     }
@@ -76,7 +78,8 @@ pub fn event_from(kind: u64, time: u64, target: u64, amount: u64, last: u64, sto
     }
 }
 
-// Word k of event i. That the words of event i are there is asked of three private functions: a struct that keeps it would be made for each call.
+// Word k of event i.
+// By event: that its words are there is asked of three functions; a struct that keeps it would be made anew for each event of a list.
 fn word_at<W: Words + Copy>(words: W, i: usize, k: usize) -> u64
     requires { (event_size * i + event_size ≤ length (W.words words)) × (length (W.words words) < 2 ^ 64) × (k < event_size) }
     ensures { result ≡ word_at (W.words words) i k }
@@ -107,7 +110,7 @@ pub fn events_fit<W: Words + Copy>(words: W) -> bool
 
 // Event i, whose words are there.
 #[tactic(auto, unfolding(crate::specs::Layout::event_of))]
-fn event_of<W: Words + Copy>(words: W, i: usize) -> Event
+pub fn event_of<W: Words + Copy>(words: W, i: usize) -> Event
     requires { event_size * i + event_size ≤ length (W.words words) }
     ensures { result ≡ event_of (W.words words) i }
 {

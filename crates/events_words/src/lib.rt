@@ -58,6 +58,7 @@ fn words_of(event: Event) -> [u64; EVENT_SIZE]
 }
 
 // The event's words from place at on; the place behind them.
+// By place: `chunks_exact_mut` promises nothing of what a slice holds once its parts are back, so the place is counted.
 pub fn put_event(out: &mut [u64], at: usize, event: Event) -> usize
     requires { at + event_size ≤ length out.old }
     ensures { Wrote (event_words event) at out.old result out.new }

@@ -1,5 +1,5 @@
 // The exponential of a block by scaling and squaring of its Taylor series.
-// By fixed memory: matrices are arrays of a fixed width, since there is no heap, of which the leading m by m part is in use.
+// By fixed memory: m of a block's rows and columns are in use, without a heap; a block and its series share one m, which two values would each keep.
 #![tactic(auto)]
 
 ghost use Rattle.std.specs.Prelude.{◌≡◌, ◌≤◌, length};

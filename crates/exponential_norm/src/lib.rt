@@ -1,5 +1,5 @@
-// The norm of a block, how often it is halved, and whether a block is finite.
-// By fixed memory: matrices are arrays of a fixed width, since there is no heap, of which the leading m by m part is in use.
+// The norm of a square matrix, how often it is halved, and whether a matrix is finite.
+// By fixed memory: m of N rows and columns are in use, without a heap; a type that keeps m ≤ N would be unwrapped at each slice.
 #![tactic(auto)]
 
 ghost use Rattle.std.specs.Prelude.{◌≡◌, ◌≤◌};
@@ -43,18 +43,14 @@ pub fn count_halvings(norm: f64, threshold: f64, most: usize) -> Result<usize, R
         return Err(Refusal::NormNotFinite);
     }
     let mut left = norm;
-    let mut n = 0usize;
-    let count = loop {
+    // By count: n is the number of halvings made, and no index.
+    for n in 0..=most {
         if !(left > threshold) {
-            break n;
-        }
-        if n == most {
-            return Err(Refusal::TooManyHalvings);
+            return Ok(n);
         }
         left = left * 0.5;
-        n += 1;
-    };
-    Ok(count)
+    }
+    Err(Refusal::TooManyHalvings)
 }
 
 // Whether the first m numbers of a row are finite.
@@ -69,10 +65,10 @@ pub fn all_finite<const N: usize>(a: &[[f64; N]; N], m: usize) -> bool
     requires { m ≤ N }
     ensures { result ≡ all_finite m a.now }
 {
-    for row in &a[..m] {
-        if !row_finite(row, m) {
-            return false;
-        }
-    }
-    true
+    a[..m].iter().all(
+        |row|
+            requires { m ≤ N }
+            ensures { result ≡ all_to (λ j. finite (cell row.now j)) m }
+        { row_finite(row, m) },
+    )
 }

@@ -1,5 +1,5 @@
 // The Taylor series of the exponential of a block; a block halved, and squared, a number of times.
-// By fixed memory: matrices are arrays of a fixed width, since there is no heap, of which the leading m by m part is in use.
+// By fixed memory: m of a block's rows and columns are in use, without a heap; two blocks share one m, which two values would each keep.
 #![tactic(auto)]
 
 ghost use Rattle.std.specs.Prelude.{◌≡◌, ◌≤◌, [], get_or};
@@ -26,6 +26,7 @@ fn add_term(sum: &mut [[f64; BLOCK]; BLOCK], term: &[[f64; BLOCK]; BLOCK], m: us
     requires { m ≤ block }
     ensures { sum.new ≡ updated m (λ i r. row_sum_of r (get_or term.now i [])) sum.old }
 {
+    // By index: of rows that are written through a zip nothing is known after the loop, so that its proof does not close.
     for (i, row) in sum[..m].iter_mut().enumerate() {
         *row = row::added(*row, term[i]);
     }
@@ -43,7 +44,7 @@ fn identity(m: usize) -> [[f64; BLOCK]; BLOCK]
     r
 }
 
-// 1 + a + a²/2! + .., the first terms after 1, into sum. Lent: by value it takes up to a tenth longer.
+// 1 + a + a²/2! + .., the first terms after 1, into sum. Lent: by value it takes up to a sixteenth longer (docs/BENCHMARKS.md).
 pub fn series(a: &[[f64; BLOCK]; BLOCK], m: usize, terms: u32, sum: &mut [[f64; BLOCK]; BLOCK])
     requires { m ≤ block }
     ensures { Holds m sum.new (seriesOf m (lead m a.now) terms).sum }
@@ -73,7 +74,7 @@ fn square(p: &[[f64; BLOCK]; BLOCK], m: usize, out: &mut [[f64; BLOCK]; BLOCK])
     requires { m ≤ block }
     ensures { out.new ≡ updated m (λ i r. row_times (get_or p.now i []) p.now m) out.old }
 {
-    // By index: over zipped rows the loop is not unrolled, and the squarings take up to a fifth longer.
+    // By index: of rows written through a zip nothing is known after the loop; `enumerate` would index p too, and takes a sixth longer.
     for i in 0..m {
         let line = p[i];
         out[i] = row::times(&line, p, m);

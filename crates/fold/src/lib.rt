@@ -1,11 +1,12 @@
 // `normalize_periodic_cycle`: the list of a cycle, folded into one period.
-// By the caller: kernel, window, events and samples come apart, since one list runs under many windows, and one kernel over many lists.
+// By test: the cycle is one that may be folded only behind the test of 5, which stands here.
 #![tactic(auto)]
 
 ghost use Rattle.std.specs.Prelude.{◌≡◌, [], OnErr};
 ghost use Rattle.refusal.specs.Numbers.{result_of};
 ghost use Rattle.fold.specs.Entry.{fold_entry};
 
+use fold_events::GivenCycle;
 use limits::{CYCLE_EVENTS, SAMPLES};
 use linear_pk::LinearPk;
 use protocol::{Event, EventList, Window};
@@ -30,6 +31,11 @@ pub fn normalize_periodic_cycle(
     if samples.len() > SAMPLES {
         return Err(Refusal::Limit);
     }
+    let given = GivenCycle {
+        window,
+        samples,
+        events,
+    };
     linear_pk::check(kernel)?;
-    fold_events::folded(kernel.state_count(), window, samples, events, list)
+    fold_events::folded(kernel.state_count(), &given, list)
 }

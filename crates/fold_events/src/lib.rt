@@ -1,15 +1,16 @@
 // Lists folded: 15, 13, then event by event 16, 17, 18, 13, at last 10, 11, 12.
-// By the entry: it takes window, samples and events apart and tests how many events there are, which no slice's type keeps; the tests here have
-// another list with the same window.
+// By count: n is how many states a kernel has, beside which no array stands.
 #![tactic(auto)]
 
-ghost use Rattle.std.specs.Prelude.{◌≡◌, [], ◌≤◌, OnErr, length};
-ghost use Rattle.limits.specs.Limits.{most_cycle_events};
+ghost use Rattle.std.specs.Prelude.{◌≡◌, [], OnErr};
 ghost use Rattle.refusal.specs.Numbers.{result_of};
 ghost use Rattle.cycle.specs.Fold.{cycle_passes, with_events, fold};
 
+mod given;
+
 use fold_event::Cycle;
-use protocol::{Event, EventList, Window};
+pub use given::GivenCycle;
+use protocol::{EventList, Window};
 use refusal::Refusal;
 
 // The ends and the period finite, and the period above 0.
@@ -22,54 +23,51 @@ fn cycle_passes(window: Window) -> bool
 }
 
 // The events one by one, in a list of their own.
-fn with_events(window: Window, events: &[Event], list: &mut EventList) -> Result<(), Refusal>
-    requires { length events.now ≤ most_cycle_events }
-    ensures { result_of result list.new.items ≡ with_events window events.now events.now [] }
+fn with_events(given: &GivenCycle, list: &mut EventList) -> Result<(), Refusal>
+    ensures { result_of result list.new.items ≡ with_events given.now.window given.now.events.now given.now.events.now [] }
 {
     list.clear();
-    let cycle = Cycle { window, events };
-    for event in events {
+    let cycle = Cycle {
+        window: given.window,
+        events: given.events,
+    };
+    for event in given.events {
         cycle.with_event(event, list)?;
     }
     Ok(())
 }
 
 // The fold, and the tests of its list for n states.
-fn fold_and_validate(
-    n: usize,
-    window: Window,
-    samples: &[f64],
-    events: &[Event],
-    list: &mut EventList,
-) -> Result<(), Refusal>
-    requires { length events.now ≤ most_cycle_events }
-    ensures { result_of result list.new.items ≡ fold n window samples.now events.now }
+fn fold_and_validate(n: usize, given: &GivenCycle, list: &mut EventList) -> Result<(), Refusal>
+    ensures { result_of result list.new.items ≡ fold n given.now.window given.now.samples.now given.now.events.now }
 {
-    if !cycle_passes(window) {
+    if !cycle_passes(given.window) {
         return Err(Refusal::Period);
     }
-    if events.len() > window.events {
+    if given.events.len() > given.window.events {
         return Err(Refusal::EventBudget);
     }
-    with_events(window, events, list)?;
-    preparation_validation::validate(n, window, samples, list)
+    with_events(given, list)?;
+    preparation_validation::validate(n, given.window, given.samples, list)
 }
 
-// The list for n states, folded; an empty one at a refusal.
-pub fn folded(
-    n: usize,
-    window: Window,
-    samples: &[f64],
-    events: &[Event],
-    list: &mut EventList,
-) -> Result<(), Refusal>
-    requires { length events.now ≤ most_cycle_events }
-    ensures folded { result_of result list.new.items ≡ fold n window samples.now events.now }
+// The reply, and its list: an empty one at a refusal.
+pub fn empty_at_refusal(reply: Result<(), Refusal>, list: &mut EventList) -> Result<(), Refusal>
+    ensures reply { result ≡ reply }
+    ensures list { result_of result list.new.items ≡ result_of reply list.old.items }
     ensures refused { OnErr result (list.new.items ≡ []) }
 {
-    let reply = fold_and_validate(n, window, samples, events, list);
     if reply.is_err() {
         list.clear();
     }
     reply
+}
+
+// The list for n states, folded; an empty one at a refusal.
+pub fn folded(n: usize, given: &GivenCycle, list: &mut EventList) -> Result<(), Refusal>
+    ensures folded { result_of result list.new.items ≡ fold n given.now.window given.now.samples.now given.now.events.now }
+    ensures refused { OnErr result (list.new.items ≡ []) }
+{
+    let reply = fold_and_validate(n, given, list);
+    empty_at_refusal(reply, list)
 }

@@ -49,6 +49,7 @@ impl CycleInfusion {
     }
 
     // Head and tail of what is left, each only if above 0.
+    #[tactic(auto, unfolding(cycle::specs::Fold::parts))]
     pub fn push_parts(&self, left: f64, out: &mut EventList)
         requires { array_vec_len out.old + 2 ≤ most_events }
         ensures parts { out.new.items ≡ out.old.items ++ parts_of self.now.window self.now.time self.now.target self.now.rate left }
@@ -62,6 +63,7 @@ impl CycleInfusion {
     }
 
     // The whole periods, if there is one, then head and tail of the remainder.
+    #[tactic(auto, unfolding(cycle::specs::Fold::whole_periods))]
     pub fn push_whole_periods(&self, left: f64, periods: f64, out: &mut EventList)
         requires { array_vec_len out.old + 3 ≤ most_events }
         ensures whole_periods { out.new.items ≡ out.old.items
@@ -83,6 +85,7 @@ impl CycleInfusion {
     }
 
     // No whole periods where a reset stops the target's infusions; else 18 where their count is not finite.
+    #[tactic(auto, unfolding(cycle::specs::Fold::infusion_pieces))]
     pub fn push_pieces(&self, stops: bool, left: f64, out: &mut EventList) -> Result<(), Refusal>
         requires { array_vec_len out.old + 3 ≤ most_events }
         ensures pieces { result_of result out.new.items ≡ behind out.old.items

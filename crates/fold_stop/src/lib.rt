@@ -1,4 +1,5 @@
 // Whether an infusion of a cycle passes, and its earliest stop among the resets of a list.
+// By value: of an infusion its time and target alone are read here, and a struct of the two would be made for one call.
 #![tactic(auto)]
 
 ghost use Rattle.std.specs.Prelude.{◌≡◌, cond};
@@ -23,15 +24,7 @@ pub fn infusion_passes(time: f64, amount: f64, duration: f64) -> bool
 pub fn stopping(target: usize, event: &Event) -> bool
     ensures { result ≡ stoppingOf target event.now }
 {
-    match event {
-        Event::Bolus { .. } => false,
-        Event::Infusion { .. } => false,
-        Event::Reset {
-            target: j,
-            stops,
-            ..
-        } => *stops & (target == *j),
-    }
+    matches!(event, Event::Reset { target: j, stops, .. } if *stops & (target == *j))
 }
 
 // A reset's time if later than the infusion's, else plus a period.

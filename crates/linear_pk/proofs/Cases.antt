@@ -3,11 +3,11 @@ use Rattle.std.specs.Prelude.{Option}
 use mathlib.Core.Path.{◌≡◌, sym}
 use mathlib.Core.Bool.{Bool, true, false, ◌&&◌}
 use mathlib.Core.List.{List}
-use Prim.Native.Nat.{ℕ, ◌<◌, ◌≤◌, ◌-◌}
+use Prim.Native.Nat.{ℕ, ◌<◌, ◌≤◌, ◌+◌, ◌-◌}
 use native.Mathlib.Omega.{arith}
 use borrow.Author.Tests.{lt-ltb, le-leb, lt-leb}
 use lib.Dec.{eqb, leb}
-use lib.ListN.{length}
+use lib.ListN.{length, take}
 use lib.Ieee.{Float}
 use Rattle.limits.specs.Limits.{states, most_volumes}
 use Rattle.binary64.specs.Doubles.{nonnegative}
@@ -16,7 +16,9 @@ use Rattle.refusal.specs.Result.{refused, done, and_then, unless}
 use Rattle.matrix.specs.Exponential.{Scheme}
 use Rattle.linear_pk_interval.specs.Interval.{interval}
 use Rattle.linear_pk_values.specs.Concentrations.{concentrations as concentrationsOf}
-use Rattle.linear_pk.specs.LinearPk.{state_count, sound, advance, concentrations, bind, passes, parameters_pass, kernel_of, matrix_finite, new, padded}
+use Rattle.linear_pk_values.proofs.Cases.{concentrations-front}
+use Rattle.linear_pk.proofs.Counted.{states_are, sound_counted}
+use Rattle.linear_pk.specs.LinearPk.{central, state_count, sound, advance, concentrations, bind, passes, parameters_pass, kernel_of, matrix_finite, new, padded}
 use Rattle.linear_pk.specs.declared.kernel.LinearPk.{LinearPk}
 
 -- ---- `advance`
@@ -37,10 +39,14 @@ module _ (k : LinearPk) (x : List Float) where
   unfolding concentrations
   concentrations_unsound room h = rw h
 
+  -- of the volumes in use
   pub concentrations-sound :
-      (room : ℕ) {j : LinearPk} → sound k ≡ done j → concentrations k x room ≡ concentrationsOf (state_count k) k.compartments k.depot k.volumes x room
+      (room : ℕ) {j : LinearPk} → k.compartments ≤ length k.volumes → sound k ≡ done j
+      → concentrations k x room
+      ≡ concentrationsOf (length (take k.compartments k.volumes) + central k.depot) (length (take k.compartments k.volumes)) k.depot
+      (take k.compartments k.volumes) x room
   unfolding concentrations
-  concentrations-sound room h = rw h
+  concentrations-sound room l h = rw (h, states_are k (sound_counted k h)) (sym (concentrations-front k.compartments k.depot k.volumes x room l))
 
   pub bind_unsound : {n : ℕ} → sound k ≡ refused n → bind k x ≡ refused n
   unfolding bind

@@ -26,7 +26,7 @@ kernel_of cl vs qs a = record {
   matrix = tabulate (states * states) (padded_rate cl vs qs (depot_of a) (absorbed a) (length vs + central (depot_of a)));
 }
 
--- the kernel of a refusal
+-- the kernel of no volumes: zeros
 abbrev pub no_kernel : LinearPk
 no_kernel = record { compartments = 0; depot = false; volumes = replicate most_volumes plus_zero; matrix = replicate (states * states) plus_zero }
 

@@ -32,6 +32,6 @@ impl LinearPk {
         if res.len() < n {
             return Err(Refusal::ShortSlice);
         }
-        linear_pk_interval::interval(self.matrix, n, amounts, rates, duration, res)
+        linear_pk_interval::interval(self.matrix, amounts, rates, duration, res)
     }
 }

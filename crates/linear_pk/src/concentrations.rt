@@ -17,10 +17,8 @@ impl LinearPk {
     {
         kernel::check(self)?;
         linear_pk_values::concentrations(
-            self.state_count(),
-            self.compartments,
             self.depot,
-            self.volumes,
+            &self.volumes[..self.compartments],
             amounts,
             res,
         )

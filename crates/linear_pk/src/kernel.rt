@@ -1,8 +1,6 @@
 // The kernel: a matrix of rates, the volumes, and whether there is a depot.
-ghost use Rattle.std.specs.Prelude.{◌≡◌, ◌+◌, ◌≤◌, length, take};
+ghost use Rattle.std.specs.Prelude.{◌≡◌, ◌+◌, ◌≤◌, length};
 ghost use Rattle.limits.specs.Limits.{states, most_volumes};
-ghost use Rattle.binary64.specs.Doubles.{positive};
-ghost use Rattle.binary64.specs.Lists.{all};
 ghost use Rattle.linear_pk.specs.LinearPk.{state_count, volumes_pass, matrix_finite, sound, kernel_of, no_kernel, new as newOf};
 ghost use Rattle.refusal.specs.Numbers.{result_of, outcome_of};
 
@@ -15,7 +13,24 @@ pub struct LinearPk {
     pub compartments: usize,
     pub depot: bool,
     pub volumes: [f64; VOLUMES],
+    // By the C interface: the rates stand row by row in one array, as in the cells of a kernel, which are read and written in one pass.
     pub matrix: [f64; RATE_CELLS],
+}
+
+// The kernel of no volumes: zeros.
+impl Default for LinearPk {
+    fn default() -> LinearPk
+        ensures { result ≡ no_kernel }
+    {
+        let volumes = [0.0f64; VOLUMES];
+        let matrix = [0.0f64; RATE_CELLS];
+        LinearPk {
+            compartments: 0,
+            depot: false,
+            volumes,
+            matrix,
+        }
+    }
 }
 
 impl LinearPk {
@@ -41,14 +56,6 @@ fn matrix_finite(kernel: LinearPk) -> bool
     linear_pk_mammillary::matrix_finite(matrix, kernel.state_count())
 }
 
-// Whether the first count volumes are finite and above 0.
-fn all_positive(volumes: [f64; VOLUMES], count: usize) -> bool
-    requires { count ≤ most_volumes }
-    ensures { result ≡ all positive (take count volumes) }
-{
-    binary64::all_positive(&volumes[..count])
-}
-
 // Whether there are 1 to 3 volumes, each finite and above 0.
 fn volumes_pass(kernel: LinearPk) -> bool
     ensures { result ≡ volumes_pass kernel }
@@ -56,8 +63,7 @@ fn volumes_pass(kernel: LinearPk) -> bool
     if kernel.state_count() == 0 {
         return false;
     }
-    let volumes = kernel.volumes;
-    all_positive(volumes, kernel.compartments)
+    binary64::all_positive(&kernel.volumes[..kernel.compartments])
 }
 
 // A kernel's own test: 1 by its volumes, 2 by a rate that is not finite.
@@ -73,42 +79,19 @@ pub fn check(kernel: LinearPk) -> Result<(), Refusal>
     Ok(())
 }
 
-// The kernel of a refusal: zeros.
-pub fn none() -> LinearPk
-    ensures { result ≡ no_kernel }
-{
-    let volumes = [0.0f64; VOLUMES];
-    let matrix = [0.0f64; RATE_CELLS];
-    LinearPk {
-        compartments: 0,
-        depot: false,
-        volumes,
-        matrix,
-    }
-}
-
 // The kernel of parameters whose counts fit.
+// By parameters: `new` is given them one by one, tests them, and calls this once; a struct that keeps their counts would be made for that call alone.
 fn kernel_of(clearance: f64, volumes: &[f64], exchange: &[f64], absorption: Option<f64>) -> LinearPk
     requires { (length exchange.now + 1 ≡ length volumes.now) × (length volumes.now ≤ most_volumes) }
     ensures { result ≡ kernel_of clearance volumes.now exchange.now absorption }
 {
-    let count = volumes.len();
-    let depot = absorption.is_some();
-    let n = count + linear_pk_mammillary::central(depot);
-    let cells = linear_pk_mammillary::matrix(
-        clearance,
-        volumes,
-        exchange,
-        depot,
-        absorption.unwrap_or(0.0),
-        n,
-    );
     let list = linear_pk_mammillary::padded(volumes);
+    let matrix = linear_pk_mammillary::matrix(clearance, volumes, exchange, absorption);
     LinearPk {
-        compartments: count,
-        depot,
+        compartments: volumes.len(),
+        depot: absorption.is_some(),
         volumes: list,
-        matrix: cells,
+        matrix,
     }
 }
 

@@ -7,4 +7,4 @@ mod concentrations;
 mod kernel;
 
 pub use bind::BoundLinearPk;
-pub use kernel::{LinearPk, check, none};
+pub use kernel::{LinearPk, check};

@@ -4,6 +4,7 @@ use mathlib.Core.Bool.{Bool, true, false}
 use mathlib.Core.List.{List}
 use Prim.Native.Nat.{ℕ, ◌+◌}
 use native.Mathlib.Omega.{arith}
+use lib.ListN.{length}
 use lib.Ieee.{Float, binary64, add, mul, eq}
 use lib.Ieee.Scale.{finite}
 use Rattle.binary64.specs.Doubles.{plus_zero, nonnegative}
@@ -19,16 +20,18 @@ use Rattle.matrix.proofs.Rows.{sum_cong, lead-at}
 -- ---- the propagator applied
 pub applied-at :
     (n : ℕ) (p : Matrix) (x r : List Float) (d : Float) {b c : Bool} {y : List Float}
-    → b ≡ all_to (λ j. finite (mul binary64 (cell r j) d)) n → y ≡ tabulate n (λ i. amount_to p n x r d i n) → c ≡ all nonnegative y
+    → length r ≡ n → b ≡ all_to (λ j. finite (mul binary64 (cell r j) d)) (length r)
+    → y ≡ tabulate n (λ i. amount_to p n x r d i n) → c ≡ all nonnegative y
     → propagated n (lead (n + n) p) x r d ≡ and_then (unless b 22 y) (λ _. unless c 22 y)
 unfolding propagated amount_to
-applied-at n p x r d {b} {c} {y} f e g =
+applied-at n p x r d {b} {c} {y} l f e g =
     let q : tabulate n (λ i. amount_to (lead (n + n) p) n x r d i n) ≡ y =
     tabulate_cong n (λ i l. sum_cong n (λ j k. ap₂ (λ (u v : Float). add binary64 (mul binary64 u (cell x j))
     (mul binary64 v (mul binary64 (cell r j) d))) (lead-at (n + n) p i j (omega arith) (omega arith)) (lead-at (n + n) p i (j + n)
     (omega arith) (omega arith))))
     ∙ sym e in
-    rw (q, ← f) (on b)
+    let h : b ≡ all_to (λ j. finite (mul binary64 (cell r j) d)) n = rw l at f in
+    rw (q, ← h) (on b)
   where
     on : (b : Bool) → and_then (unless b 22 y) (λ y. unless (all nonnegative y) 22 y) ≡ and_then (unless b 22 y) (λ _. unless c 22 y)
     on true = rw g

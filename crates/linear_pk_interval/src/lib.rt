@@ -1,5 +1,5 @@
 // Amounts after an interval with constant input rates, of n states and the rates between them.
-// By fixed memory: sizes in use stand beside arrays of the most states, since there is no heap.
+// By the C interface: amounts and rates come as two arrays of a C program, so as slices of one length, which is at most the most states.
 #![tactic(auto)]
 
 ghost use Rattle.std.specs.Prelude.{◌≡◌, ◌≤◌, ◌+◌, ◌++◌, length, drop};
@@ -14,7 +14,7 @@ use limits::{BLOCK, RATE_CELLS};
 use refusal::Refusal;
 
 // The values from the front of out; the cells behind them stay.
-// By hand: the library's `copy_from_slice` asks for equal lengths.
+// By hand: `copy_from_slice` writes a whole slice; what stays behind the part that it writes is said here once, for every slice that is lent.
 pub fn lay(values: &[f64], out: &mut [f64])
     requires { length values.now ≤ length out.old }
     ensures { out.new ≡ values.now ++ drop (length values.now) out.old }
@@ -25,22 +25,22 @@ pub fn lay(values: &[f64], out: &mut [f64])
 // The amounts after p, into result.
 fn apply(
     p: &[[f64; BLOCK]; BLOCK],
-    n: usize,
     amounts: &[f64],
     rates: &[f64],
     duration: f64,
     res: &mut [f64],
 ) -> Result<(), Refusal>
-    requires { (n ≤ states) × (length amounts.now ≡ n) × (length rates.now ≡ n) × (n ≤ length res.old) }
-    ensures result_value { reply_number result ≡ number (propagated n (lead (n + n) p.now) amounts.now rates.now duration) }
-    ensures res_after { res.new ≡ slice_at_exit (propagated n (lead (n + n) p.now) amounts.now
-        rates.now duration) res.old }
+    requires { (length amounts.now ≤ states) × (length rates.now ≡ length amounts.now) × (length amounts.now ≤ length res.old) }
+    ensures result_value { reply_number result ≡ number (propagated (length amounts.now)
+        (lead (length amounts.now + length amounts.now) p.now) amounts.now rates.now duration) }
+    ensures res_after { res.new ≡ slice_at_exit (propagated (length amounts.now)
+        (lead (length amounts.now + length amounts.now) p.now) amounts.now rates.now duration) res.old }
 {
-    if !linear_pk_propagator::inputs_finite(rates, n, duration) {
+    if !linear_pk_propagator::inputs_finite(rates, duration) {
         return Err(Refusal::AmountNotFinite);
     }
-    let list = linear_pk_propagator::amounts_after(p, n, amounts, rates, duration);
-    let after = &list[..n];
+    let list = linear_pk_propagator::amounts_after(p, amounts, rates, duration);
+    let after = &list[..amounts.len()];
     if !binary64::all_nonnegative(after) {
         return Err(Refusal::AmountNotFinite);
     }
@@ -48,24 +48,23 @@ fn apply(
     Ok(())
 }
 
-// The amounts of n states after a duration at constant input rates, into the first cells of result.
+// The amounts, one for each state, after a duration at constant input rates, into the first cells of result.
 pub fn interval(
     matrix: [f64; RATE_CELLS],
-    n: usize,
     amounts: &[f64],
     rates: &[f64],
     duration: f64,
     res: &mut [f64],
 ) -> Result<(), Refusal>
-    requires { (n ≤ states) × (length amounts.now ≡ n) × (length rates.now ≡ n) × (n ≤ length res.old) }
-    ensures result_value { reply_number result ≡ number (intervalOf scheme n matrix amounts.now rates.now duration) }
-    ensures res_after { res.new ≡ slice_at_exit (intervalOf scheme n matrix amounts.now rates.now duration)
-        res.old }
+    requires { (length amounts.now ≤ states) × (length rates.now ≡ length amounts.now) × (length amounts.now ≤ length res.old) }
+    ensures result_value { reply_number result ≡ number (intervalOf scheme (length amounts.now) matrix amounts.now rates.now duration) }
+    ensures res_after { res.new ≡ slice_at_exit (intervalOf scheme (length amounts.now) matrix amounts.now
+        rates.now duration) res.old }
 {
     if duration == 0.0 {
         lay(amounts, res);
         return Ok(());
     }
-    let made = linear_pk_propagator::propagator(matrix, n, duration)?;
-    apply(&made.matrix, n, amounts, rates, duration, res)
+    let made = linear_pk_propagator::propagator(matrix, amounts.len(), duration)?;
+    apply(&made.matrix, amounts, rates, duration, res)
 }

@@ -1,13 +1,22 @@
 -- 01, "Amounts and concentrations": the rates of the mammillary model (one to three compartments, an optional depot), those of the compartment
 -- equations dA/dt = K·A + R (Gibaldi and Perrier, Pharmacokinetics, 1982, ch. 2). Absorption is given by whether there is a depot, and its rate.
-use Rattle.std.specs.Prelude.{Bool, ◌&&◌, cond, List, ℕ, zero, suc, ◌-◌, ◌/◌, ◌%◌, eqb, ltb, length, Float}
+use Rattle.std.specs.Prelude.{Bool, ◌&&◌, cond, List, ℕ, zero, suc, ◌-◌, ◌/◌, ◌%◌, eqb, ltb, length, Float, Option, is_some, unwrap_or}
 use Rattle.std.specs.Float.{binary64}
 use Rattle.std.specs.Float.Ieee.{sub, div, neg}
 use Rattle.limits.specs.Limits.{states}
 use Rattle.binary64.specs.Doubles.{plus_zero}
 use Rattle.matrix.specs.Matrix.{cell, tabulate}
 
--- the central of the central state: behind the depot, if there is one
+-- ---- first-order absorption from a depot by its rate, or none
+abbrev pub depot_of : Option Float → Bool
+depot_of a = is_some a
+
+-- the absorption's rate; +0 stands for none
+abbrev pub absorbed : Option Float → Float
+absorbed a = unwrap_or a plus_zero
+
+-- ---- the rates
+-- the place of the central state: behind the depot, if there is one
 abbrev pub central : Bool → ℕ
 central depot = cond depot 1 0
 

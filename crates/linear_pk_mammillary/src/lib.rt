@@ -1,6 +1,5 @@
 // The matrix of rates of a mammillary model: central, up to two peripherals, an optional depot.
-// By fixed memory: sizes in use stand beside arrays of the most states, since there is no heap.
-// Parameters go side by side, as the entry that makes a kernel lists them: a struct of them would be made there, and taken apart for each cell.
+// By parameters: the entry that makes a kernel is given clearance, volumes, exchange and absorption one by one, and calls `matrix` once; a struct would be made for that call alone.
 #![tactic(auto)]
 
 ghost use Rattle.std.specs.Prelude.{◌≡◌, ◌+◌, ◌≤◌, ◌<◌, length};
@@ -8,7 +7,7 @@ ghost use Rattle.std.specs.Float.Ieee.Scale.{finite};
 ghost use Rattle.limits.specs.Limits.{states, rate_cells};
 ghost use Rattle.matrix.specs.Matrix.{tabulate, all_to};
 ghost use Rattle.linear_pk_interval.specs.Interval.{entry};
-ghost use Rattle.linear_pk_mammillary.specs.Rates.{central, diagonal_to, central_rate, peripheral_rate, mammillary_rate, padded_rate, padded_cell, padded};
+ghost use Rattle.linear_pk_mammillary.specs.Rates.{central, diagonal_to, central_rate, peripheral_rate, depot_of, absorbed, mammillary_rate, padded_rate, padded_cell, padded};
 
 use limits::{RATE_CELLS, STATES};
 use std::array;
@@ -67,75 +66,76 @@ fn rate(
     clearance: f64,
     volumes: &[f64],
     exchange: &[f64],
-    depot: bool,
-    absorption: f64,
+    absorption: Option<f64>,
     i: usize,
     j: usize,
 ) -> f64
-    requires { (length exchange.now + 1 ≡ length volumes.now) × (i < length volumes.now + central depot)
-        × (j < length volumes.now + central depot) }
-    ensures { result ≡ mammillary_rate clearance volumes.now exchange.now depot absorption i j }
+    requires { (length exchange.now + 1 ≡ length volumes.now) × (i < length volumes.now + central (depot_of absorption))
+        × (j < length volumes.now + central (depot_of absorption)) }
+    ensures { result ≡ mammillary_rate clearance volumes.now exchange.now (depot_of absorption) (absorbed absorption) i j }
 {
-    let c = central(depot);
+    let c = central(absorption.is_some());
+    let k = absorption.unwrap_or(0.0);
     if i < c {
         if j < c {
-            return -absorption;
+            return -k;
         }
         return 0.0;
     }
     if i == c {
         if j < c {
-            return absorption;
+            return k;
         }
         return central_rate(clearance, volumes, exchange, c, j);
     }
     peripheral_rate(volumes, exchange, c, i, j)
 }
 
-// The rate at place c of a kernel's cells: +0 outside the n by n part.
+// The rate at place c of a kernel's cells: +0 outside the n by n part of its n states.
 fn padded_rate(
     clearance: f64,
     volumes: &[f64],
     exchange: &[f64],
-    depot: bool,
-    absorption: f64,
-    n: usize,
+    absorption: Option<f64>,
     c: usize,
 ) -> f64
-    requires { (length exchange.now + 1 ≡ length volumes.now) × (n ≡ length volumes.now + central depot) }
-    ensures { result ≡ padded_rate clearance volumes.now exchange.now depot absorption n c }
+    requires { length exchange.now + 1 ≡ length volumes.now }
+    ensures { result ≡ padded_rate clearance volumes.now exchange.now (depot_of absorption) (absorbed absorption)
+        (length volumes.now + central (depot_of absorption)) c }
 {
+    let n = volumes.len() + central(absorption.is_some());
     let i = c / STATES;
     let j = c % STATES;
     if i < n {
         if j < n {
-            return rate(clearance, volumes, exchange, depot, absorption, i, j);
+            return rate(clearance, volumes, exchange, absorption, i, j);
         }
     }
     0.0
 }
 
+// The rates of the states of these volumes and this absorption.
 pub fn matrix(
     clearance: f64,
     volumes: &[f64],
     exchange: &[f64],
-    depot: bool,
-    absorption: f64,
-    n: usize,
+    absorption: Option<f64>,
 ) -> [f64; RATE_CELLS]
-    requires { (length exchange.now + 1 ≡ length volumes.now) × (n ≡ length volumes.now + central depot) }
-    ensures { result ≡ tabulate rate_cells (padded_rate clearance volumes.now exchange.now depot absorption n) }
+    requires { length exchange.now + 1 ≡ length volumes.now }
+    ensures { result ≡ tabulate rate_cells (padded_rate clearance volumes.now exchange.now (depot_of absorption) (absorbed absorption)
+        (length volumes.now + central (depot_of absorption))) }
 {
     array::from_fn(
         |c|
-            requires { (length exchange.now + 1 ≡ length volumes.now) × (n ≡ length volumes.now + central depot) }
-            ensures { result ≡ padded_rate clearance volumes.entry.now exchange.entry.now depot absorption n c }
-        { padded_rate(clearance, volumes, exchange, depot, absorption, n, c) },
+            requires { length exchange.now + 1 ≡ length volumes.now }
+            ensures { result ≡ padded_rate clearance volumes.entry.now exchange.entry.now (depot_of absorption) (absorbed absorption)
+                (length volumes.entry.now + central (depot_of absorption)) c }
+        { padded_rate(clearance, volumes, exchange, absorption, c) },
     )
 }
 
 // Entry i of a list, +0 past its end.
-fn padded_cell(xs: &[f64], i: usize) -> f64
+pub fn padded_cell(xs: &[f64], i: usize) -> f64
     ensures { result ≡ padded_cell xs.now i }
 {
     if i < xs.len() { xs[i] } else { 0.0 }
@@ -152,6 +152,8 @@ pub fn padded<const N: usize>(xs: &[f64]) -> [f64; N]
     )
 }
 
+// Whether the rates to state i from n states are finite.
+// By fixed memory: n, the count of states in use, stands beside the rates of the most states, since there is no heap.
 fn row_finite(matrix: [f64; RATE_CELLS], n: usize, i: usize) -> bool
     requires { (i < states) × (n ≤ states) }
     ensures { result ≡ all_to (λ j. finite (entry matrix i j)) n }
@@ -160,6 +162,7 @@ fn row_finite(matrix: [f64; RATE_CELLS], n: usize, i: usize) -> bool
 }
 
 // Whether the rates of n states are finite.
+// By fixed memory: n, the count of states in use, stands beside the rates of the most states, since there is no heap.
 pub fn matrix_finite(matrix: [f64; RATE_CELLS], n: usize) -> bool
     requires { n ≤ states }
     ensures { result ≡ all_to (λ i. all_to (λ j. finite (entry matrix i j)) n) n }

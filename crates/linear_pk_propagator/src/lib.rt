@@ -1,5 +1,5 @@
 // The exponential of a duration, of n states and the rates between them, and the amounts after it is applied to them.
-// By fixed memory: sizes in use stand beside arrays of the most states, since there is no heap.
+// By fixed memory: n, the count of states in use, stands beside a matrix of the most states, since there is no heap.
 #![tactic(auto)]
 
 ghost use Rattle.std.specs.Prelude.{◌≡◌, ◌≤◌, ◌<◌, ◌+◌, cond, ltb, length, take};
@@ -73,29 +73,22 @@ pub fn propagator(matrix: [f64; RATE_CELLS], n: usize, duration: f64) -> Result<
 }
 
 // Whether each input rate·duration is finite.
-pub fn inputs_finite(rates: &[f64], n: usize, duration: f64) -> bool
-    requires { n ≤ length rates.now }
-    ensures { result ≡ all_to (λ j. finite (mul binary64 (cell rates.now j) duration)) n }
+pub fn inputs_finite(rates: &[f64], duration: f64) -> bool
+    ensures { result ≡ all_to (λ j. finite (mul binary64 (cell rates.now j) duration)) (length rates.now) }
 {
-    rates[..n]
+    rates
         .iter()
         .all(|rate| binary64::is_finite(*rate * duration))
 }
 
 // Amount i after p: each pair is added first.
-fn amount(
-    p: &[[f64; BLOCK]; BLOCK],
-    n: usize,
-    amounts: &[f64],
-    rates: &[f64],
-    duration: f64,
-    i: usize,
-) -> f64
-    requires { (n ≤ states) × (i < n) × (length amounts.now ≡ n) × (length rates.now ≡ n) }
-    ensures { result ≡ amount_to p.now n amounts.now rates.now duration i n }
+fn amount(p: &[[f64; BLOCK]; BLOCK], amounts: &[f64], rates: &[f64], duration: f64, i: usize) -> f64
+    requires { (length amounts.now ≤ states) × (i < length amounts.now) × (length rates.now ≡ length amounts.now) }
+    ensures { result ≡ amount_to p.now (length amounts.now) amounts.now rates.now duration i (length amounts.now) }
 {
+    let n = amounts.len();
     let mut sum = -0.0f64;
-    // By index: both halves of row i, the amounts and the rates go side by side.
+    // By index: both halves of row i, the amounts and the rates go side by side; zips of four, `(((p, q), amount), rate)`, are no plainer.
     for j in 0..n {
         sum = sum + (p[i][j] * amounts[j] + p[i][j + n] * (rates[j] * duration));
     }
@@ -105,21 +98,22 @@ fn amount(
 // The amounts after p, from place 0.
 pub fn amounts_after(
     p: &[[f64; BLOCK]; BLOCK],
-    n: usize,
     amounts: &[f64],
     rates: &[f64],
     duration: f64,
 ) -> [f64; STATES]
-    requires { (n ≤ states) × (length amounts.now ≡ n) × (length rates.now ≡ n) }
-    ensures { take n result ≡ tabulate n (λ i. amount_to p.now n amounts.now rates.now duration i n) }
+    requires { (length amounts.now ≤ states) × (length rates.now ≡ length amounts.now) }
+    ensures { take (length amounts.now) result
+        ≡ tabulate (length amounts.now) (λ i. amount_to p.now (length amounts.now) amounts.now rates.now duration i (length amounts.now)) }
 {
     array::from_fn(
         |i|
-            requires { (n ≤ states) × (length amounts.now ≡ n) × (length rates.now ≡ n) }
-            ensures { result ≡ cond (ltb i n) (amount_to p.entry.now n amounts.entry.now rates.entry.now duration i n) plus_zero }
+            requires { (length amounts.now ≤ states) × (length rates.now ≡ length amounts.now) }
+            ensures { result ≡ cond (ltb i (length amounts.entry.now))
+                (amount_to p.entry.now (length amounts.entry.now) amounts.entry.now rates.entry.now duration i (length amounts.entry.now)) plus_zero }
         {
-            if i < n {
-                amount(p, n, amounts, rates, duration, i)
+            if i < amounts.len() {
+                amount(p, amounts, rates, duration, i)
             } else {
                 0.0
             }

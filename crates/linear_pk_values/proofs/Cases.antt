@@ -1,15 +1,19 @@
 -- The definition in the words of the code.
-use mathlib.Core.Path.{◌≡◌, refl}
+use mathlib.Core.Path.{◌≡◌, refl, ap}
 use mathlib.Core.Bool.{Bool, true, false}
 use mathlib.Core.List.{List}
-use Prim.Native.Nat.{ℕ}
+use Prim.Native.Nat.{ℕ, ◌+◌, ◌≤◌}
 use lib.Dec.{leb}
-use lib.Ieee.{Float}
+use lib.ListN.{length, take}
+use lib.Seq.{length-take-le, get_or-take}
+use lib.Ieee.{Float, nan, binary64, div}
 use lib.Ieee.Scale.{finite}
-use Rattle.matrix.specs.Matrix.{tabulate}
+use Rattle.matrix.specs.Matrix.{cell, tabulate}
 use Rattle.binary64.specs.Lists.{all, amounts_pass}
 use Rattle.refusal.specs.Result.{and_then, unless}
+use Rattle.linear_pk_mammillary.specs.Rates.{central}
 use Rattle.linear_pk_values.specs.Concentrations.{concentration, concentrations}
+use Rattle.matrix.proofs.Filled.{tabulate_cong}
 
 module _ (n v : ℕ) (depot : Bool) (vs x : List Float) where
   pub concentrations-are :
@@ -23,3 +27,14 @@ module _ (n v : ℕ) (depot : Bool) (vs x : List Float) where
       on false l = refl
       on true false = refl
       on true true = rw g
+
+-- the volumes in use alone are read
+pub concentrations-front :
+    (v : ℕ) (depot : Bool) (vs x : List Float) (room : ℕ) → v ≤ length vs
+    → concentrations (length (take v vs) + central depot) (length (take v vs)) depot (take v vs) x room
+    ≡ concentrations (v + central depot) v depot vs x room
+unfolding concentrations
+concentrations-front v depot vs x room h =
+    let q : tabulate v (concentration depot (take v vs) x) ≡ tabulate v (concentration depot vs x) =
+    tabulate_cong v (λ i b. ap (div binary64 (cell x (i + central depot))) (get_or-take v vs i nan b)) in
+    rw (length-take-le v vs h, q) refl

@@ -1,5 +1,5 @@
 // The values that a kernel is made of, which pass, and amounts by volume.
-// By fixed memory: sizes in use stand beside arrays of the most states, since there is no heap.
+// By fixed memory: the volumes are asked to be no more than the array of their concentrations holds, since there is no heap.
 #![tactic(auto)]
 
 ghost use Rattle.std.specs.Prelude.{◌≡◌, ◌≤◌, ◌<◌, ◌+◌, cond, ltb, length, take};
@@ -32,9 +32,10 @@ pub fn values_pass(
 }
 
 // The concentration of compartment i: the depot is skipped.
-fn concentration(depot: bool, volumes: [f64; VOLUMES], amounts: &[f64], i: usize) -> f64
-    requires { (i < most_volumes) × (i + central depot < length amounts.now) }
-    ensures { result ≡ concentrationOf depot volumes amounts.now i }
+// By parameters: the kernel, which holds the depot and the volumes, is a type of the crate above; a struct of them here would be made for one call.
+fn concentration(depot: bool, volumes: &[f64], amounts: &[f64], i: usize) -> f64
+    requires { (i < length volumes.now) × (i + central depot < length amounts.now) }
+    ensures { result ≡ concentrationOf depot volumes.now amounts.now i }
 {
     if depot {
         let at = i + 1;
@@ -43,22 +44,17 @@ fn concentration(depot: bool, volumes: [f64; VOLUMES], amounts: &[f64], i: usize
     amounts[i] / volumes[i]
 }
 
-// The concentrations of the first compartments, from place 0.
-fn concentration_list(
-    depot: bool,
-    volumes: [f64; VOLUMES],
-    amounts: &[f64],
-    count: usize,
-) -> [f64; VOLUMES]
-    requires { (count ≤ most_volumes) × (count + central depot ≤ length amounts.now) }
-    ensures { take count result ≡ tabulate count (concentrationOf depot volumes amounts.now) }
+// The concentrations of the compartments, from place 0.
+fn concentration_list(depot: bool, volumes: &[f64], amounts: &[f64]) -> [f64; VOLUMES]
+    requires { (length volumes.now ≤ most_volumes) × (length volumes.now + central depot ≤ length amounts.now) }
+    ensures { take (length volumes.now) result ≡ tabulate (length volumes.now) (concentrationOf depot volumes.now amounts.now) }
 {
     array::from_fn(
         |i|
-            requires { (count ≤ most_volumes) × (count + central depot ≤ length amounts.now) }
-            ensures { result ≡ cond (ltb i count) (concentrationOf depot volumes amounts.entry.now i) plus_zero }
+            requires { length volumes.now + central depot ≤ length amounts.now }
+            ensures { result ≡ cond (ltb i (length volumes.entry.now)) (concentrationOf depot volumes.entry.now amounts.entry.now i) plus_zero }
         {
-            if i < count {
+            if i < volumes.len() {
                 concentration(depot, volumes, amounts, i)
             } else {
                 0.0
@@ -67,27 +63,27 @@ fn concentration_list(
     )
 }
 
-// The concentrations of the compartments, count of them in n states, into the first cells of result.
+// The concentrations of the compartments, one for each of their volumes, into the first cells of result.
 pub fn concentrations(
-    n: usize,
-    count: usize,
     depot: bool,
-    volumes: [f64; VOLUMES],
+    volumes: &[f64],
     amounts: &[f64],
     res: &mut [f64],
 ) -> Result<(), Refusal>
-    requires { (count ≤ most_volumes) × (n ≡ count + central depot) }
-    ensures result_value { reply_number result ≡ number (concentrationsOf n count depot volumes amounts.now (length res.old)) }
-    ensures res_after { res.new ≡ slice_at_exit (concentrationsOf n count depot volumes amounts.now
-        (length res.old)) res.old }
+    requires { length volumes.now ≤ most_volumes }
+    ensures result_value { reply_number result ≡ number (concentrationsOf (length volumes.now + central depot)
+        (length volumes.now) depot volumes.now amounts.now (length res.old)) }
+    ensures res_after { res.new ≡ slice_at_exit (concentrationsOf (length volumes.now + central depot)
+        (length volumes.now) depot volumes.now amounts.now (length res.old)) res.old }
 {
-    if !binary64::amounts_pass(n, amounts) {
+    let count = volumes.len();
+    if !binary64::amounts_pass(count + linear_pk_mammillary::central(depot), amounts) {
         return Err(Refusal::Argument);
     }
     if res.len() < count {
         return Err(Refusal::ShortSlice);
     }
-    let list = concentration_list(depot, volumes, amounts, count);
+    let list = concentration_list(depot, volumes, amounts);
     let values = &list[..count];
     if !binary64::all_finite(values) {
         return Err(Refusal::ConcentrationNotFinite);

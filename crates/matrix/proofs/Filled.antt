@@ -25,20 +25,10 @@ module _ {A : Type 0} (f : ℕ → A) (z : A) where
   from_more i (suc w) zero h = rw add-zero
   from_more i (suc w) (suc j) h = ap {B = List A} (λ r. f i ∷ r) (rw (add-suc, ← suc-add) (from_more (suc i) w j (le_of_suc-le-suc h)))
 
-  from_full : (i w : ℕ) → fill_from f z i w w ≡ tabulate_from i w f
-  unfolding fill_from tabulate_from
-  from_full i zero = refl
-  from_full i (suc w) = ap {B = List A} (λ r. f i ∷ r) (from_full (suc i) w)
-
   -- one more cell is stored
   pub fill_more : (w j : ℕ) {row : List A} {v : A} → row ≡ fill w j f z → v ≡ f j → j < w → set row j v ≡ fill w (j + 1) f z
   unfolding fill
   fill_more w j p q h = rw (p, q, add-one) (rw zero-add at (from_more 0 w j h))
-
-  -- all are
-  pub filled : (w j : ℕ) {row : List A} → j ≤ w → w ≤ j → row ≡ fill w j f z → row ≡ tabulate w f
-  unfolding fill tabulate
-  filled w j p q r = rw (le_antisymm p q) at r ∙ from_full 0 w
 
   from_part : (i w m : ℕ) → m ≤ w → take m (fill_from f z i w m) ≡ tabulate_from i m f
   unfolding fill_from tabulate_from

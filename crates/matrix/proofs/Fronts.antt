@@ -1,5 +1,5 @@
 -- Sums and tests of the first m elements of a list, by index.
-use mathlib.Core.Path.{◌≡◌, refl, sym, ap, ap₂, ◌∙◌}
+use mathlib.Core.Path.{◌≡◌, refl, sym, ap₂, ◌∙◌}
 use mathlib.Core.Bool.{Bool, false, ◌&&◌}
 use mathlib.Core.List.{List, [], ◌∷◌}
 use Prim.Native.Nat.{ℕ, zero, suc, ◌+◌, ◌≤◌, ◌<◌}
@@ -8,18 +8,13 @@ use native.Mathlib.Omega.{arith}
 use mathlib.Core.Logic.{inl, inr}
 use lib.ListN.{length, get_or, take}
 use lib.Seq.{get_or-take}
-use lib.Ieee.{Float, nan}
 use Rattle.std.proofs.Math.Bool.{and-false}
 use Rattle.std.specs.List.{range_with_len}
 use Rattle.std.proofs.Common.{length-take-le}
 use Rattle.std.proofs.lemmas.List.{get_or_default}
 use Rattle.binary64.specs.Lists.{all}
 use Rattle.binary64.proofs.Folds.{and_regroup, and_whole}
-use Rattle.matrix.specs.Matrix.{cell, sum_to, all_to}
-use Rattle.matrix.proofs.Rows.{sum_cong}
-
-pub sum_front : (f : Float → Float) (m : ℕ) (r : List Float) → m ≤ length r → sum_to (λ j. f (cell (take m r) j)) (length (take m r)) ≡ sum_to (λ j. f (cell r j)) m
-sum_front f m r h = rw (length-take-le m r h) (sum_cong m (λ j l. ap f (get_or-take m r j nan l)))
+use Rattle.matrix.specs.Matrix.{all_to}
 
 -- the first test ahead of the others
 all-first : (f : ℕ → Bool) (m : ℕ) → all_to f (suc m) ≡ f 0 && all_to (λ i. f (suc i)) m

@@ -1,5 +1,5 @@
 // Square matrices.
-// By fixed memory: they are arrays of a fixed width, since there is no heap, and the size in use stands beside them.
+// By fixed memory: they are arrays of a fixed width, since there is no heap, and the rows and columns in use stand beside them.
 #![tactic(auto)]
 
 pub mod row;

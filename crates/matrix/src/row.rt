@@ -1,5 +1,5 @@
 // Rows of a block, over the whole width.
-// By fixed memory: rows are arrays of a fixed width, and the size in use stands beside them.
+// By fixed memory: m of a block's rows are in use, without a heap; a type that keeps m ≤ block would be unwrapped at the one slice.
 ghost use Rattle.std.specs.Prelude.{◌≡◌, ◌≤◌};
 ghost use Rattle.limits.specs.Limits.{block};
 ghost use Rattle.matrix.specs.Arrays.{scaled_sum, row_quotient, row_sum_of, row_half, row_times};

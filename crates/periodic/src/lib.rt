@@ -1,9 +1,8 @@
 // `periodic_steady_state`: the closed cycle of a list, from the tests ahead of it to the amounts, the residuals and the greatest scaled one.
-// By the caller: kernel, window, events, samples and tolerance come apart, as it has them.
+// By test: the cycle is one that may be folded only behind the test of 5, which stands here.
 #![tactic(auto)]
 
-ghost use Rattle.std.specs.Prelude.{◌≡◌, ◌&&◌, ◌≤◌, leb, length};
-ghost use Rattle.limits.specs.Limits.{states, most_cycle_events};
+ghost use Rattle.std.specs.Prelude.{◌≡◌, length};
 ghost use Rattle.linear_pk.specs.LinearPk.{state_count};
 ghost use Rattle.simulation.specs.KernelRun.{propagator_of};
 ghost use Rattle.cycle.specs.Closed.{closed as closedOf, steady_report_of, answer_at_exit};
@@ -11,6 +10,7 @@ ghost use Rattle.periodic_acceptance.specs.Entry.{steady_room, steady_entry, ste
 ghost use Rattle.periodic_acceptance.specs.Replies.{SteadyAnswer};
 
 use cycle::SteadyStateTolerance;
+use fold_events::GivenCycle;
 use limits::{CYCLE_EVENTS, SAMPLES};
 use linear_pk::LinearPk;
 use periodic_runs::PreparedCycle;
@@ -21,32 +21,22 @@ use refusal::Refusal;
 // The closed cycle of the list, folded.
 fn closed(
     kernel: LinearPk,
-    n: usize,
-    window: Window,
-    samples: &[f64],
+    given: &GivenCycle,
     tolerance: SteadyStateTolerance,
-    events: &[Event],
     amounts: &mut [f64],
     residual: &mut [f64],
 ) -> Result<f64, Stop>
-    requires { (n ≡ state_count kernel) × (n ≤ states) × (length events.now ≤ most_cycle_events) }
-    ensures { SteadyAnswer (closedOf (propagator_of kernel) n window samples.now events.now tolerance
-        (leb n (length amounts.old) && leb n (length residual.old)))
+    ensures { SteadyAnswer (closedOf (propagator_of kernel) (state_count kernel) given.now.window given.now.samples.now given.now.events.now tolerance
+        (steady_room kernel (length amounts.old) (length residual.old)))
         (steady_reply result) amounts.old residual.old amounts.new residual.new }
 {
+    let n = kernel.state_count();
     let mut folded = EventList::new();
-    periodic_preparation::prepare_periodic_steady_state(
-        n,
-        window,
-        samples,
-        tolerance,
-        events,
-        &mut folded,
-    )?;
+    periodic_preparation::prepare_periodic_steady_state(n, given, tolerance, &mut folded)?;
     let cycle = PreparedCycle {
         kernel,
         n,
-        window,
+        window: given.window,
         events: &folded,
     };
     periodic_prepared::execute_prepared_periodic_steady_state(&cycle, tolerance, amounts, residual)
@@ -77,15 +67,11 @@ pub fn periodic_steady_state(
     if samples.len() > SAMPLES {
         return Err(Stop::from(Refusal::Limit));
     }
-    linear_pk::check(kernel)?;
-    closed(
-        kernel,
-        kernel.state_count(),
+    let given = GivenCycle {
         window,
         samples,
-        tolerance,
         events,
-        amounts,
-        residual,
-    )
+    };
+    linear_pk::check(kernel)?;
+    closed(kernel, &given, tolerance, amounts, residual)
 }

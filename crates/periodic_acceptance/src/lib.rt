@@ -1,5 +1,5 @@
 // The acceptance of a closed cycle's candidate, by its own run.
-// By fixed memory: amounts stand in arrays of the most states, the first n of which are a kernel's.
+// By fixed memory: n states stand in arrays of the most, without a heap; n comes from `PreparedCycle`, and `judged` needs no more of it.
 #![tactic(auto)]
 
 ghost use Rattle.std.specs.Prelude.{◌≡◌, ◌≤◌, take};
@@ -37,7 +37,7 @@ fn judged(
 {
     let maximum = periodic_residual::maximum(n, tolerance, candidate, end)?;
     Ok(Acceptance {
-        residuals: periodic_residual::residuals(n, candidate, end),
+        residuals: periodic_residual::residuals(candidate, end),
         maximum,
     })
 }

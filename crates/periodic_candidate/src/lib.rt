@@ -1,5 +1,5 @@
 // The candidate of a closed cycle, from the runs and elimination.
-// By fixed memory: amounts stand in arrays of the most states, the first n of which are a kernel's.
+// By fixed memory: without a heap n states stand in arrays of the most; n comes from `PreparedCycle`, and elimination needs no more of it.
 #![tactic(auto)]
 
 ghost use Rattle.std.specs.Prelude.{◌≡◌, ◌≤◌, take};
@@ -33,6 +33,6 @@ pub fn solution(cycle: &PreparedCycle) -> Result<[f64; STATES], Stop>
         ≡ solutionOf (propagator_of cycle.now.kernel) cycle.now.n cycle.now.window cycle.now.events.now }
 {
     let offset = cycle.last_of([0.0; STATES])?;
-    let columns = cycle.columns()?;
+    let columns = periodic_runs::columns(cycle.kernel, cycle.n, cycle.window, cycle.events)?;
     Ok(eliminated(cycle.n, &columns, offset)?)
 }

@@ -1,31 +1,12 @@
-// What the inner runs of a closed cycle start from: the divided budgets, the zeroed list, the unit amounts; cells for the rows.
+// What the inner runs of a closed cycle start from: the divided budgets, the zeroed list, the unit amounts.
 #![tactic(auto)]
 
 ghost use Rattle.std.specs.Prelude.{◌≡◌, length, ◌≤◌, ◌<◌};
-ghost use Rattle.limits.specs.Limits.{states, most_events, cycle_rows, cycle_values};
+ghost use Rattle.limits.specs.Limits.{states, most_events};
 ghost use Rattle.cycle.specs.Closed.{divided as dividedOf, zeroed as zeroedOf, homogeneous as homogeneousOf, unit as unit_of};
 
-use limits::{CYCLE_ROWS, CYCLE_VALUES, STATES};
+use limits::STATES;
 use protocol::{Event, EventList, Window};
-
-// Cells for the rows of a run. What they hold is of no matter.
-pub fn time_cells() -> [f64; CYCLE_ROWS]
-    ensures { cycle_rows ≡ length result }
-{
-    [0.0; CYCLE_ROWS]
-}
-
-pub fn side_cells() -> [u8; CYCLE_ROWS]
-    ensures { cycle_rows ≡ length result }
-{
-    [0; CYCLE_ROWS]
-}
-
-pub fn value_cells() -> [f64; CYCLE_VALUES]
-    ensures { cycle_values ≡ length result }
-{
-    [0.0; CYCLE_VALUES]
-}
 
 // Each budget divided by n + 2.
 #[tactic(auto, unfolding(cycle::specs::Closed::divided))]

@@ -11,10 +11,15 @@ use borrow.Author.Tests.{le-leb}
 use lib.Dec.{T}
 use lib.ListN.{length, take, drop, get_or, replicate, length-append}
 use lib.Ieee.{Float}
+use Rattle.std.specs.Prelude.{Ok, Err}
+use Rattle.std.specs.Result.{IsOk}
 use Rattle.limits.specs.Limits.{states, most_events, cycle_rows, cycle_values}
 use Rattle.binary64.specs.Doubles.{plus_zero}
 use Rattle.binary64.specs.Lists.{all, flat_map, amounts_pass}
 use Rattle.refusal.specs.Result.{Result, done}
+use Rattle.refusal.specs.Numbers.{refusal_number}
+use Rattle.refusal.specs.declared.Refusal.{Refusal}
+use Rattle.refusal.proofs.Numbers.{refusal-number}
 use Rattle.linear_pk.specs.LinearPk.{sound, state_count}
 use Rattle.linear_pk.specs.declared.kernel.LinearPk.{LinearPk}
 use Rattle.protocol.specs.declared.Event.{Event}
@@ -26,8 +31,10 @@ use Rattle.protocol.specs.PlainRun.{PlainRun, EndRow, rows_left}
 use Rattle.protocol.proofs.EntryLaws.{simulate_runs, n_each, row_place}
 use Rattle.preparation.specs.Preparation.{own_number}
 use Rattle.simulation.specs.KernelRun.{propagator_of, refusal_of}
-use Rattle.simulation.specs.Entries.{room, simulate_entry, reported}
-use Rattle.simulation_report.specs.declared.Report.{Report}
+use Rattle.simulation.specs.Entries.{simulate_entry}
+use Rattle.simulation_report.specs.Replies.{room, RunReply, run_reply}
+use Rattle.simulation_report.specs.declared.Reached.{Reached}
+use Rattle.simulation_report.specs.declared.RunError.TheVariants.{Refused, Stopped}
 use Rattle.simulation.proofs.KernelRuns.{kernel-run}
 use Rattle.cycle.specs.Closed.{got, divided, end_of, last_of}
 use Rattle.cycle.proofs.InnerRuns.{run_leaves}
@@ -124,24 +131,35 @@ module _ (k : LinearPk) (w : Window) (fs : List Event) (a : List Float) (h : Rea
     goes : simulate_entry k a span fs [] (room times sides (length values)) ≡ done (go h.left)
     goes = ap (λ (x : Window). simulate_entry k a x fs [] (room times sides (length values))) d ∙ entry_goes times sides (length values) t s v
 
-    module _ {told : RunReport} {report : Report} (r : reported report ≡ told) (e : told
-        ≡ report_of (simulate_entry k a span fs [] (room times sides (length values)))) where
-      counted : report.rows ≡ length end.ahead + 1
-      counted = ap (λ (x : RunReport). x.rows) (r ∙ e ∙ ap report_of goes) ∙ some_rows
+    -- it reaches the end
+    pub is-ok : (reply : RunReply) → run_reply reply ≡ report_of (simulate_entry k a span fs [] (room times sides (length values))) → IsOk reply
+    is-ok reply e = on reply (ap (λ (x : RunReport). x.number) (e ∙ ap report_of goes))
+      where
+        never : (x : Refusal) → refusal_number x ≡ 0 → ⊥
+        never x q = omega (arith, refusal-number x)
 
-      pub some_row : 1 ≤ report.rows
+        on : (o : RunReply) → (run_reply o).number ≡ 0 → IsOk o
+        on (Ok x) q = refl
+        on (Err (Refused x)) q = absurd (never x q)
+        on (Err (Stopped x u m)) q = absurd (never x q)
+
+    module _ {reached : Reached} (e : run_reply (Ok reached) ≡ report_of (simulate_entry k a span fs [] (room times sides (length values)))) where
+      counted : reached.rows ≡ length end.ahead + 1
+      counted = ap (λ (x : RunReport). x.rows) (e ∙ ap report_of goes) ∙ some_rows
+
+      pub some_row : 1 ≤ reached.rows
       some_row = omega (arith, counted)
 
       few-rows : length end.ahead ≤ cycle_rows
       few-rows = omega (arith, some_rows, h.few, subst (λ (o : Outcome). length (rows_left o) ≤ reckoned [] fs) h.reaches facts.within)
 
-      pub place_fits : (report.rows - 1) * n ≤ cycle_values
-      place_fits = let p : report.rows - 1 ≡ length end.ahead = omega (arith, counted) in rw p (rooms (length end.ahead) n few-rows small)
+      pub place_fits : (reached.rows - 1) * n ≤ cycle_values
+      place_fits = let p : reached.rows - 1 ≡ length end.ahead = omega (arith, counted) in rw p (rooms (length end.ahead) n few-rows small)
 
       pub cycle-ends : {values' : List Float} → values' ≡ values_at_exit (reckoned [] fs) n
           (simulate_entry k a span fs [] (room times sides (length values))) values
-          → ((report.rows - 1) * n + n ≤ length values') × (last_of (propagator_of k) n w fs a ≡ got (take n (drop ((report.rows - 1) * n) values')))
+          → ((reached.rows - 1) * n + n ≤ length values') × (last_of (propagator_of k) n w fs a ≡ got (take n (drop ((reached.rows - 1) * n) values')))
       cycle-ends q =
-          let p : report.rows - 1 ≡ length end.ahead = omega (arith, counted) in
+          let p : reached.rows - 1 ≡ length end.ahead = omega (arith, counted) in
           let l = q ∙ ap (λ (o : Result Outcome). values_at_exit (reckoned [] fs) n o values) goes in
           rw (p, l) (within values, ends ∙ ap (λ (x : List Float). got x) (sym (last_row values)))

@@ -1,5 +1,5 @@
 // One cycle of a folded list from given amounts, by the library's run.
-// By the caller: the rows go into slices of its own, whose lengths no type keeps.
+// By room: a type that kept these three lengths would be made for one run and opened at one; `Rows` lends the slices as they are.
 #![tactic(auto)]
 
 ghost use Rattle.std.specs.Prelude.{◌≡◌, ◌+◌, ◌≤◌, length, take, drop};
@@ -7,10 +7,12 @@ ghost use Rattle.limits.specs.Limits.{cycle_rows, cycle_values};
 ghost use Rattle.linear_pk.specs.LinearPk.{state_count};
 ghost use Rattle.simulation.specs.KernelRun.{propagator_of};
 ghost use Rattle.cycle.specs.Closed.{got, last_of};
+ghost use Rattle.rows.specs.Lent.{SameSlices};
 ghost use Rattle.periodic_next.specs.ReachesEnd.{ReachesEnd};
 
 use linear_pk::LinearPk;
 use protocol::{Event, Window};
+use rows::Rows;
 
 // The place in the values from which the amounts at the cycle's end stand: the run's last row. Four rows for each of 192 events, and two, have
 // room.
@@ -19,26 +21,27 @@ pub fn simulate_cycle(
     window: Window,
     events: &[Event],
     amounts: &[f64],
-    times: &mut [f64],
-    sides: &mut [u8],
-    values: &mut [f64],
+    rows: &mut Rows<'_>,
 ) -> usize
-    requires { ReachesEnd kernel window events.now amounts.now × (cycle_rows ≤ length times.old) × (cycle_rows ≤ length sides.old) × (cycle_values ≤ length values.old) }
-    ensures { (result + state_count kernel ≤ length values.new)
+    requires { ReachesEnd kernel window events.now amounts.now × (cycle_rows ≤ length rows.old.times.now)
+        × (cycle_rows ≤ length rows.old.sides.now) × (cycle_values ≤ length rows.old.values.now) }
+    ensures end { (result + state_count kernel ≤ length rows.new.values.now)
         × (last_of (propagator_of kernel) (state_count kernel) window events.now amounts.now
-        ≡ got (take (state_count kernel) (drop result values.new))) }
+        ≡ got (take (state_count kernel) (drop result rows.new.values.now))) }
+    ensures slices { SameSlices rows.old rows.new }
 {
     let n = kernel.state_count();
     let span = periodic_inputs::divided(n, window);
-    let report = simulation_report::report_of(simulation::simulate(
+    let reached = simulation::simulate(
         kernel,
         amounts,
         span,
         events,
         &[],
-        times,
-        sides,
-        values,
-    ));
-    (report.rows - 1) * n
+        rows.times,
+        rows.sides,
+        rows.values,
+    )
+    .unwrap();
+    (reached.rows - 1) * n
 }

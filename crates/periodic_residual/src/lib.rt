@@ -1,8 +1,8 @@
 // The residuals of a closed cycle: end minus start, and the greatest scaled one.
-// By fixed memory: amounts stand in arrays of the most states, the first n of which are a kernel's.
+// By fixed memory: without a heap n states stand in arrays of the most; a type that keeps n ≤ states would be unwrapped at each slice.
 #![tactic(auto)]
 
-ghost use Rattle.std.specs.Prelude.{◌≡◌, ◌≤◌, take};
+ghost use Rattle.std.specs.Prelude.{◌≡◌, ◌≤◌, ℕ, take};
 ghost use Rattle.limits.specs.Limits.{states};
 ghost use Rattle.refusal.specs.Numbers.{outcome_of};
 ghost use Rattle.cycle.specs.Closed.{untimed, scale_of, judged as judgedOf, checked_maximum_to, residuals_of};
@@ -10,9 +10,10 @@ ghost use Rattle.cycle.specs.Closed.{untimed, scale_of, judged as judgedOf, chec
 use cycle::SteadyStateTolerance;
 use limits::STATES;
 use refusal::Refusal;
+use std::array;
 
 // absolute + relative·max(|start|, |end|)
-// By the state: a tolerance is of the whole cycle, start and end of one state; no value holds the three.
+// By the call: the tolerance holds for all states, start and end are those of one, and nothing else needs the three together.
 #[tactic(auto, unfolding(cycle::specs::Closed::scale_of))]
 pub fn scale(tolerance: SteadyStateTolerance, start: f64, end: f64) -> f64
     ensures { result ≡ scale_of tolerance start end }
@@ -59,14 +60,8 @@ pub fn maximum(
 }
 
 // End minus start, of each state.
-pub fn residuals(n: usize, start: [f64; STATES], end: [f64; STATES]) -> [f64; STATES]
-    requires { n ≤ states }
-    ensures { take n result ≡ residuals_of n (take n start) (take n end) }
+pub fn residuals(start: [f64; STATES], end: [f64; STATES]) -> [f64; STATES]
+    ensures { (n : ℕ) → n ≤ states → take n result ≡ residuals_of n (take n start) (take n end) }
 {
-    let mut list = [0.0f64; STATES];
-    // By index: one cell is written from two at the same place, and a zip of three is no plainer.
-    for i in 0..n {
-        list[i] = end[i] - start[i];
-    }
-    list
+    array::from_fn(|i| end[i] - start[i])
 }

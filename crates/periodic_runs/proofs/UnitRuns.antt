@@ -5,8 +5,8 @@ use Prim.Native.Nat.{ℕ, zero, suc, ◌+◌, ◌≤◌, ◌<◌}
 use native.Mathlib.Nat.{add-zero, zero-add, add-suc, suc-add, le_antisymm}
 use native.Mathlib.Numerals.{add-one}
 use native.Mathlib.Omega.{arith}
-use lib.ListN.{length, get_or, set, take, replicate}
-use lib.Seq.{get_or-set_same, get_or-set_other, take-set-lt}
+use lib.ListN.{length, get_or, get_or-append, set, take, replicate}
+use lib.Seq.{length-take-le, get_or-set_same, get_or-set_other, take-set-lt}
 use lib.Ieee.{Float}
 use Rattle.limits.specs.Limits.{states}
 use Rattle.binary64.specs.Doubles.{plus_zero, one}
@@ -43,6 +43,17 @@ columns-set n cs j a h =
   where
     apart : (i : ℕ) → i ≡ j → i < j → ⊥
     apart i q g = omega arith
+
+-- a place in the front
+pub below_front : {A : Type 0} (n k : ℕ) (xs : List A) → n ≤ length xs → k < length (take n xs) → k < n
+below_front n k xs h l = omega (arith, l, length-take-le n xs h)
+
+pub past_front : {A : Type 0} (n k : ℕ) (xs : List A) → n ≤ length xs → length (take n xs) ≤ k → n ≤ k
+past_front n k xs h l = omega (arith, l, length-take-le n xs h)
+
+-- the columns are those in front
+pub columns-front : (n : ℕ) (cs ds : List (List Float)) → n ≤ length cs → columns_of n (cs ++ ds) n ≡ columns_of n cs n
+columns-front n cs ds h = tabulate_cong n (λ (i : ℕ) (g : i < n). ap (take n) (get_or-append cs ds [] i (omega arith)))
 
 module _ (advance : Propagator) (n : ℕ) (w : Window) (fs : List Event) where
   step : ℕ → List (List Float) → Timed (List (List Float))

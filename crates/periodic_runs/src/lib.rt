@@ -4,7 +4,7 @@
 ghost use Rattle.std.specs.Prelude.{◌≡◌, length, take};
 ghost use Rattle.binary64.specs.Doubles.{plus_zero};
 ghost use Rattle.simulation.specs.KernelRun.{propagator_of};
-ghost use Rattle.cycle.specs.Closed.{last_of, columns_to};
+ghost use Rattle.cycle.specs.Closed.{last_of, homogeneous as homogeneousOf, columns_to};
 ghost use Rattle.periodic_runs.specs.Ends.{Runs, timed_with};
 ghost use Rattle.periodic_runs.specs.Columns.{columns_of};
 
@@ -77,25 +77,30 @@ impl PreparedCycle<'_> {
         )?;
         Ok(end.amounts)
     }
+}
 
-    // The runs of the zeroed list from each unit amount in turn: column j in row j.
-    pub fn columns(&self) -> Result<[[f64; STATES]; STATES], Stop>
-        ensures { timed_with (λ cs. columns_of self.now.n cs self.now.n) result
-            ≡ columns_to (propagator_of self.now.kernel) self.now.n self.now.window self.now.events.now self.now.n }
-    {
-        let mut zeroed = EventList::new();
-        periodic_inputs::homogeneous(self.events, &mut zeroed);
-        let unit_runs = PreparedCycle {
-            kernel: self.kernel,
-            n: self.n,
-            window: self.window,
-            events: &zeroed,
-        };
-        let mut columns = [[0.0f64; STATES]; STATES];
-        // By index: the place of a column is also the state of its unit amount.
-        for j in 0..self.n {
-            columns[j] = unit_runs.last_of(periodic_inputs::unit(j))?;
-        }
-        Ok(columns)
+// The runs of the zeroed list from each unit amount in turn: column j in row j.
+// By fixed memory: the columns are the first n of an array of the most states, without a heap.
+pub fn columns(
+    kernel: LinearPk,
+    n: usize,
+    window: Window,
+    events: &[Event],
+) -> Result<[[f64; STATES]; STATES], Stop>
+    requires { Runs kernel n window (homogeneousOf events.now) }
+    ensures { timed_with (λ cs. columns_of n cs n) result ≡ columns_to (propagator_of kernel) n window events.now n }
+{
+    let mut zeroed = EventList::new();
+    periodic_inputs::homogeneous(events, &mut zeroed);
+    let unit_runs = PreparedCycle {
+        kernel,
+        n,
+        window,
+        events: &zeroed,
+    };
+    let mut columns = [[0.0f64; STATES]; STATES];
+    for (j, column) in columns[..n].iter_mut().enumerate() {
+        *column = unit_runs.last_of(periodic_inputs::unit(j))?;
     }
+    Ok(columns)
 }

@@ -3,22 +3,18 @@ use mathlib.Core.Path.{◌≡◌, refl}
 use mathlib.Core.Bool.{Bool, true, false}
 use mathlib.Core.List.{List, [], ◌∷◌}
 use mathlib.Core.Option.{Option, some, none}
-use Prim.Native.Nat.{ℕ, suc, ◌+◌, ◌*◌, ◌≤◌, ◌<◌}
+use Prim.Native.Nat.{ℕ, suc, ◌+◌, ◌*◌, ◌≤◌}
 use native.Mathlib.Omega.{arith}
-use borrow.Author.Tests.{lt-leb, le-leb}
+use borrow.Author.Tests.{le-leb}
 use lib.Dec.{leb}
 use lib.ListN.{length}
 use lib.Ieee.{Float}
-use Rattle.limits.specs.Limits.{most_events, most_samples}
 use Rattle.protocol.specs.First.{unless, first_of}
 use Rattle.binary64.specs.Lists.{all}
 use Rattle.protocol.specs.Prepare.{validate, window_passes, within, events_pass, reckoned, prepare}
 use Rattle.protocol.specs.declared.Window.{Window}
 use Rattle.protocol.specs.declared.Event.{Event}
-use Rattle.refusal.specs.Result.{done}
-use Rattle.linear_pk.specs.LinearPk.{sound, state_count}
-use Rattle.linear_pk.specs.declared.kernel.LinearPk.{LinearPk}
-use Rattle.preparation.specs.Preparation.{prepare_entry, option_number}
+use Rattle.preparation.specs.Preparation.{option_number}
 
 -- the preparation is 13, `validate`, 14
 prepare-by :
@@ -27,17 +23,6 @@ prepare-by :
     → prepare n w ss es ≡ first_of (unless b 13 ∷ validate n w ss es ∷ unless f 14 ∷ [])
 unfolding prepare
 prepare-by n w ss es {b} {f} p t = rw (← p, ← t)
-
-first_one : (o : Option ℕ) → first_of (o ∷ []) ≡ o
-first_one none = refl
-first_one (some c) = refl
-
-pub entry_at :
-    (k : LinearPk) (w : Window) (ss : List Float) (es : List Event) {j : LinearPk} → leb (length es) most_events ≡ true
-    → leb (length ss) most_samples ≡ true → sound k ≡ done j
-    → prepare_entry k w ss es ≡ prepare (state_count k) w ss es
-unfolding prepare_entry
-entry_at k w ss es p q h = rw (p, q, h) (first_one (prepare (state_count k) w ss es))
 
 -- ---- 0 stands for none
 -- a number above 0 is that of the first test that fails
@@ -54,34 +39,13 @@ no_number e = absurd (never e)
     never : {c : ℕ} → 0 ≡ suc c → ⊥
     never e = omega arith
 
-pub validate-passes : (n : ℕ) (w : Window) (ss : List Float) (es : List Event) → 0 ≡ option_number (validate n w ss es) → validate n w ss es ≡ none
-unfolding validate
-validate-passes n w ss es = on (window_passes w) (all (within w) ss) (events_pass n w [] es)
-  where
-    on : (b c d : Bool) → 0 ≡ option_number (first_of (unless b 10 ∷ unless c 11 ∷ unless d 12 ∷ []))
-        → first_of (unless b 10 ∷ unless c 11 ∷ unless d 12 ∷ []) ≡ none
-    on true true true h = refl
-    on true true false h = no_number {c = 11} h
-    on true false d h = no_number {c = 10} h
-    on false c d h = no_number {c = 9} h
-
--- so it is 13; `validate`'s number; 14; none
-module _ (n : ℕ) (w : Window) (ss : List Float) (es : List Event) where
-  pub budget_fails : w.events < length es → 13 ≡ option_number (prepare n w ss es)
-  budget_fails h = rw (prepare-by n w ss es refl refl, lt-leb _ _ h)
-
-  module _ (h : length es ≤ w.events) where
-    pub validate-fails : {c : ℕ} → 1 ≤ c → c ≡ option_number (validate n w ss es) → c ≡ option_number (prepare n w ss es)
-    validate-fails l e =
-        rw (prepare-by n w ss es refl refl, le-leb _ _ h) (first_refused (validate n w ss es)
-        (unless (leb ((4 * length es + length ss + 2) * n) w.outputs) 14 ∷ []) l e)
-
-    module _ (e : 0 ≡ option_number (validate n w ss es)) where
-      pub rows_fail : w.outputs < (4 * length es + length ss + 2) * n → 14 ≡ option_number (prepare n w ss es)
-      rows_fail g = rw (prepare-by n w ss es refl refl, le-leb _ _ h, validate-passes n w ss es e, lt-leb _ _ g)
-
-      pub prepares : (4 * length es + length ss + 2) * n ≤ w.outputs → 0 ≡ option_number (prepare n w ss es)
-      prepares g = rw (prepare-by n w ss es refl refl, le-leb _ _ h, validate-passes n w ss es e, le-leb _ _ g)
+-- so it is `validate`'s number
+pub validate-fails :
+    (n : ℕ) (w : Window) (ss : List Float) (es : List Event) → length es ≤ w.events → {c : ℕ} → 1 ≤ c → c ≡ option_number (validate n w ss es)
+    → c ≡ option_number (prepare n w ss es)
+validate-fails n w ss es h l e =
+    rw (prepare-by n w ss es refl refl, le-leb _ _ h) (first_refused (validate n w ss es)
+    (unless (leb ((4 * length es + length ss + 2) * n) w.outputs) 14 ∷ []) l e)
 
 pub prepare-passes : (n : ℕ) (w : Window) (ss : List Float) (es : List Event) → 0 ≡ option_number (prepare n w ss es) → prepare n w ss es ≡ none
 unfolding prepare validate

@@ -1,5 +1,6 @@
 // The tests ahead of a run, behind those of the kernel and the amounts.
-// By the caller: of its three slices the lengths alone are read, and no type keeps that a slice of samples is within the limit.
+// By length: of the lent slices the lengths alone are read, and no type keeps that a slice of samples is within the limit.
+// By the tests: a fold tests other events under the same window, and a closed cycle runs without samples on another window.
 ghost use Rattle.std.specs.Prelude.{◌≡◌, [], ◌∷◌, ◌≤◌, length};
 ghost use Rattle.limits.specs.Limits.{states, most_events, most_samples};
 ghost use Rattle.refusal.specs.Numbers.{reply_number};

@@ -1,5 +1,6 @@
 // `prepare_simulation`: 13, 10, 11, 12 event by event, 14.
-// By the entry: it takes window, events and samples apart; n is how many states a kernel has, no array's length.
+// By count: n is how many states a kernel has, beside which no array stands.
+// By the tests: a fold tests other events under the same window, and a closed cycle runs without samples on another window.
 #![tactic(auto)]
 
 pub mod admission;
@@ -23,6 +24,7 @@ pub fn reckoned_rows(samples: &[f64], events: &[Event]) -> usize
 }
 
 // Whether a run of n states takes the list: 13, 10, 11, 12, 14.
+#[tactic(auto, unfolding(protocol::specs::Prepare::prepare))]
 pub fn prepared(n: usize, window: Window, samples: &[f64], events: &[Event]) -> Result<(), Refusal>
     requires { (n ≤ states) × (length events.now ≤ most_events) }
     ensures { reply_number result ≡ option_number (prepare n window samples.now events.now) }
@@ -39,6 +41,7 @@ pub fn prepared(n: usize, window: Window, samples: &[f64], events: &[Event]) -> 
 }
 
 // Whether a run of the kernel takes the events: 5, the kernel's own 1 and 2, then 13, 10, 11, 12, 14.
+#[tactic(auto, unfolding(crate::specs::Preparation::prepare_entry))]
 pub fn prepare_simulation(
     kernel: LinearPk,
     window: Window,

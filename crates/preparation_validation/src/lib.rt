@@ -1,5 +1,6 @@
 // The tests of a window with its samples and events: 10, 11, 12 event by event.
-// By the entry: it takes window, samples and events apart, and a closed cycle has its list tested on divided budgets and without samples.
+// By count: n is how many states a kernel has, beside which no array stands.
+// By the tests: a fold tests other events under the same window, and a closed cycle runs without samples on another window.
 #![tactic(auto)]
 
 ghost use Rattle.std.specs.Prelude.{◌≡◌, [], reverse};
@@ -70,12 +71,7 @@ fn event_passes(n: usize, window: Window, seen: &[Event], event: &Event) -> bool
 pub fn events_pass(n: usize, window: Window, events: &[Event]) -> bool
     ensures { result ≡ events_pass n window [] events.now }
 {
-    for (i, event) in events.iter().enumerate() {
-        if !event_passes(n, window, &events[..i], event) {
-            return false;
-        }
-    }
-    true
+    (0..events.len()).all(|i| event_passes(n, window, &events[..i], &events[i]))
 }
 
 // Ends finite and increasing, tolerances finite and above 0.

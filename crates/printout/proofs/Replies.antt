@@ -2,9 +2,9 @@
 use mathlib.Core.Path.{◌≡◌, refl, ap, ◌∙◌, subst}
 use mathlib.Core.Bool.{Bool, true, false, cond, not}
 use mathlib.Core.List.{List}
-use Prim.Native.Nat.{ℕ, ◌≤◌, zero-le}
+use Prim.Native.Nat.{ℕ, ◌≤◌}
 use native.Mathlib.Omega.{arith}
-use borrow.Author.Tests.{ne_eqb, leb-true}
+use borrow.Author.Tests.{ne_eqb}
 use lib.Dec.{eqb, leb}
 use lib.ListN.{length}
 use lib.Ieee.{Float}
@@ -45,11 +45,3 @@ module _ {p : Printout} {old new text : List ℕ} {r : PrintReply} {length' : �
 
 pub prints_same : {p q : Printout} {old new : List ℕ} {r : PrintReply} → p ≡ q → Prints p old r new → Prints q old r new
 prints_same {p} {q} {old} {new} {r} e h = subst (λ (x : Printout). Prints x old r new) e h
-
--- the bytes written lie in the output
-pub printed-within : (text old : List ℕ) → printed_length text old ≤ length old
-printed-within text old = on (leb (length text) (length old)) refl
-  where
-    on : (b : Bool) → leb (length text) (length old) ≡ b → cond b (length text) 0 ≤ length old
-    on true e = leb-true (length text) (length old) e
-    on false e = zero-le

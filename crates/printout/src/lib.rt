@@ -49,12 +49,14 @@ fn write_run(rows: &PrintedRows<'_>, ordered: f64, out: &mut [u8]) -> usize
 }
 
 // The printout of a run that is not refused, from the front; nothing is written where there is no room for it.
+// By limit: the length of the text asks for both, and `PrintedRows::put`, which asks for neither, would with fields for them.
+// By text: what has room is written in four functions; one over a closure would ask of it the text, its length and what it writes.
 pub fn print_run(rows: &PrintedRows<'_>, ordered: f64, out: &mut [u8]) -> PrintReply
     requires { (rows.now.n ≤ states) × (rows.now.rows ≤ most_rows) }
     ensures { Prints (answer (rows_text rows.now.rows rows.now.n ordered rows.now.times.now rows.now.sides.now rows.now.values.now)) out.old
         result out.new }
 {
-    if run_length(rows) > out.len() {
+    if run_length(rows.rows, rows.n, rows.sides) > out.len() {
         return reply_of(Ok(()), 0);
     }
     let length = write_run(rows, ordered, out);
@@ -66,7 +68,7 @@ fn write_refused(refusal: Refusal, time: f64, out: &mut [u8]) -> usize
     ensures { Wrote (refused_text (refusal_number refusal) time) 0 out.old result out.new }
 {
     let mut w = Writer { out, at: 0 };
-    put_refused(&mut w, refusal, time);
+    put_refused(&mut w, u64::from(refusal), time);
     w.at
 }
 
@@ -74,7 +76,7 @@ fn write_refused(refusal: Refusal, time: f64, out: &mut [u8]) -> usize
 pub fn print_refused(refusal: Refusal, time: f64, out: &mut [u8]) -> PrintReply
     ensures { Prints (refused_at (refusal_number refusal) time) out.old result out.new }
 {
-    if refused_length(refusal) > out.len() {
+    if refused_length(u64::from(refusal)) > out.len() {
         return reply_of(Err(refusal), 0);
     }
     let length = write_refused(refusal, time, out);

@@ -1,11 +1,12 @@
 -- Lines of states, one by one, and how long they are.
 use mathlib.Core.Path.{◌≡◌, refl, sym, ap, ◌∙◌}
 use mathlib.Core.List.{List, [], ◌∷◌, ◌++◌, append-nil, append_assoc}
-use Prim.Native.Nat.{ℕ, zero, suc, ◌+◌, ◌*◌, ◌<◌}
+use Prim.Native.Nat.{ℕ, zero, suc, ◌+◌, ◌*◌, ◌≤◌, ◌<◌}
 use native.Mathlib.Nat.{le_of_suc-le-suc}
 use native.Mathlib.Numerals.{add-one}
 use native.Mathlib.Omega.{arith}
 use lib.ListN.{length, take, get_or, length-append}
+use lib.Seq.{length-take-le}
 use lib.Ieee.{Float, nan}
 use Rattle.printout_numbers.proofs.Counts.{double_length}
 use Rattle.cycle.specs.declared.SteadyStateTolerance.{SteadyStateTolerance}
@@ -43,3 +44,10 @@ module _ (tol : SteadyStateTolerance) where
       → cycle_lines tol (take k xs) (take k ys) ++ cycle_line tol (get_or xs k nan) (get_or ys k nan)
       ≡ cycle_lines tol (take (k + 1) xs) (take (k + 1) ys)
   lines_more k xs ys h l = rw add-one (next_line k xs ys h l)
+
+  -- of the first states
+  pub front_lines : (n : ℕ) (xs ys : List Float) → n ≤ length xs → n ≤ length ys → length (cycle_lines tol (take n xs) (take n ys)) ≡ 68 * n
+  front_lines n xs ys h l =
+      let a : length (take n xs) ≡ n = length-take-le n xs h in
+      let r : length (take n ys) ≡ n = length-take-le n ys l in
+      omega (arith, a, lines_length_lem (take n xs) (take n ys) (omega (arith, a, r)))

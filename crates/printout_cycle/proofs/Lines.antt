@@ -2,9 +2,10 @@
 use mathlib.Core.Path.{◌≡◌, refl}
 use mathlib.Core.Bool.{Bool, true, false, cond}
 use mathlib.Core.List.{List}
-use Prim.Native.Nat.{◌≤◌}
+use Prim.Native.Nat.{ℕ, ◌≤◌}
 use native.Mathlib.Omega.{arith}
-use lib.ListN.{length, length-append}
+use lib.ListN.{length, take, length-append}
+use lib.Seq.{length-take-le}
 use lib.Ieee.{Float}
 use Rattle.cycle.specs.declared.SteadyStateTolerance.{SteadyStateTolerance}
 use Rattle.printout_cycle.proofs.Lengths.{lines_length_lem}
@@ -33,3 +34,12 @@ pub text-length : (tol : SteadyStateTolerance) (xs ys zs : List Float) → lengt
 unfolding lines_text
 text-length tol xs ys zs h {closed} c =
     rw (← c) (omega (arith, length-append (cycle_lines tol xs ys) (verdict_line closed), lines_length_lem tol xs ys h, verdict_length closed))
+
+-- of the first states
+pub front_length : (tol : SteadyStateTolerance) (n : ℕ) (xs ys zs : List Float) → n ≤ length xs → n ≤ length ys
+    → {closed : Bool} → closed ≡ closes tol (take n xs) (take n ys) zs
+    → length (lines_text (record { tolerance = tol; starts = take n xs; ends = take n ys; residuals = zs })) ≡ lines_length n closed
+front_length tol n xs ys zs h l {closed} c =
+    let a : length (take n xs) ≡ n = length-take-le n xs h in
+    let r : length (take n ys) ≡ n = length-take-le n ys l in
+    rw a at (text-length tol (take n xs) (take n ys) zs (omega (arith, a, r)) c)

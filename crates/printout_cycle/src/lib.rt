@@ -1,7 +1,7 @@
 // The bytes of one more cycle from the amounts of a closed one, into lent cells, and whether it closes.
 #![tactic(auto)]
 
-ghost use Rattle.std.specs.Prelude.{◌≡◌, ◌≤◌, ◌*◌, ◌++◌, length};
+ghost use Rattle.std.specs.Prelude.{◌≡◌, ◌≤◌, ◌*◌, ◌++◌, length, take};
 ghost use Rattle.limits.specs.Limits.{states};
 ghost use Rattle.cycle.specs.Closed.{scaled_of};
 ghost use Rattle.printout_cycle.specs.Closes.{state_closes, closes as closesOf};
@@ -74,44 +74,47 @@ fn lines_length(n: usize, closed: bool) -> usize
     if closed { 68 * n + 7 } else { 68 * n + 11 }
 }
 
-// The amounts at the start and at the end of a cycle, and the residuals that its solution told, of each state.
+// The amounts at the start and at the end of a cycle, of the first n states.
 #[derive(Clone, Copy)]
 pub struct PrintedCycle<'a> {
     pub tolerance: SteadyStateTolerance,
+    pub n: usize,
     pub starts: &'a [f64],
     pub ends: &'a [f64],
-    pub residuals: &'a [f64],
-    ghost ended: { length ends.now ≡ length starts.now },
-    ghost told: { length residuals.now ≡ length starts.now },
+    ghost held: { n ≤ length starts.now },
+    ghost ended: { n ≤ length ends.now },
 }
 
 impl PrintedCycle<'_> {
-    pub fn closes(&self) -> bool
-        ensures { result ≡ closesOf self.now.tolerance self.now.starts.now self.now.ends.now self.now.residuals.now }
+    // Whether it closes, and by the residuals that its solution told.
+    pub fn closes(&self, residuals: &[f64]) -> bool
+        requires { self.now.n ≤ length residuals.now }
+        ensures { result ≡ closesOf self.now.tolerance (take self.now.n self.now.starts.now) (take self.now.n self.now.ends.now)
+            (take self.now.n residuals.now) }
     {
-        let mut ok = true;
-        // By index: a zip of three is no plainer.
-        for k in 0..self.starts.len() {
-            let start = self.starts[k];
-            let end = self.ends[k];
-            ok = ok & state_closes(self.tolerance, start, end, self.residuals[k]);
-        }
-        ok
+        self.starts[..self.n]
+            .iter()
+            .zip(&self.ends[..self.n])
+            .zip(&residuals[..self.n])
+            .all(|((start, end), residual)| state_closes(self.tolerance, *start, *end, *residual))
     }
 
     // The lines of all states.
     pub fn put_lines(&self, w: &mut Writer<'_>)
-        requires { HasRoom (68 * length self.now.starts.now) w.old }
-        ensures { Writes (cycle_lines self.now.tolerance self.now.starts.now self.now.ends.now) w.old w.new }
+        requires { HasRoom (68 * self.now.n) w.old }
+        ensures { Writes (cycle_lines self.now.tolerance (take self.now.n self.now.starts.now) (take self.now.n self.now.ends.now)) w.old w.new }
     {
-        for (start, end) in self.starts.iter().zip(self.ends) {
+        let starts = &self.starts[..self.n];
+        let ends = &self.ends[..self.n];
+        for (start, end) in starts.iter().zip(ends) {
             cycle_line(w, self.tolerance, *start, *end);
         }
     }
 
     fn write(&self, closed: bool, out: &mut [u8]) -> usize
-        requires { lines_length (length self.now.starts.now) closed ≤ length out.old }
-        ensures { Wrote (cycle_lines self.now.tolerance self.now.starts.now self.now.ends.now ++ verdict_line closed) 0 out.old result out.new }
+        requires { lines_length self.now.n closed ≤ length out.old }
+        ensures { Wrote (cycle_lines self.now.tolerance (take self.now.n self.now.starts.now) (take self.now.n self.now.ends.now)
+            ++ verdict_line closed) 0 out.old result out.new }
     {
         let mut w = Writer { out, at: 0 };
         self.put_lines(&mut w);
@@ -120,17 +123,17 @@ impl PrintedCycle<'_> {
     }
 
     // The printout from the front; nothing is written where there is no room for it.
-    pub fn print(&self, out: &mut [u8]) -> PrintReply
-        requires { length self.now.starts.now ≤ states }
+    pub fn print(&self, residuals: &[f64], out: &mut [u8]) -> PrintReply
+        requires { (self.now.n ≤ length residuals.now) × (self.now.n ≤ states) }
         ensures { Prints (answer (lines_text (record {
           tolerance = self.now.tolerance;
-          starts = self.now.starts.now;
-          ends = self.now.ends.now;
-          residuals = self.now.residuals.now;
+          starts = take self.now.n self.now.starts.now;
+          ends = take self.now.n self.now.ends.now;
+          residuals = take self.now.n residuals.now;
         }))) out.old result out.new }
     {
-        let closed = self.closes();
-        if lines_length(self.starts.len(), closed) > out.len() {
+        let closed = self.closes(residuals);
+        if lines_length(self.n, closed) > out.len() {
             return reply_of(Ok(()), 0);
         }
         let length = self.write(closed, out);

@@ -3,7 +3,6 @@
 
 ghost use Rattle.std.specs.Prelude.{◌+◌, ◌≤◌, length, ◌≡◌};
 ghost use Rattle.limits.specs.Limits.{states, most_rows};
-ghost use Rattle.refusal.specs.Numbers.{refusal_number};
 ghost use Rattle.printout_numbers.specs.Digits.{places as places_of};
 ghost use Rattle.printout_numbers.specs.Writer.{HasRoom, Writes};
 ghost use Rattle.printout_lines.specs.Lines.{head_line, named_line, refused_text};
@@ -11,8 +10,6 @@ ghost use Rattle.printout_rows.specs.Row.{side_length};
 ghost use Rattle.printout_rows.specs.Rows.{rows_length};
 
 use printout_numbers::{Writer, places};
-use printout_rows::PrintedRows;
-use refusal::Refusal;
 
 // "rows" and their number.
 #[tactic(auto, using(crate::proofs::Lengths::lengths))]
@@ -37,27 +34,29 @@ pub fn put_named(w: &mut Writer<'_>, name: &[u8], x: f64)
 }
 
 // The text of a refusal.
+// By number: the line of a refusal has its number, whatever names it.
 #[tactic(auto, using(crate::proofs::Lengths::lengths))]
-pub fn put_refused(w: &mut Writer<'_>, refusal: Refusal, time: f64)
-    requires { HasRoom (length (refused_text (refusal_number refusal) time)) w.old }
-    ensures { Writes (refused_text (refusal_number refusal) time) w.old w.new }
+pub fn put_refused(w: &mut Writer<'_>, number: u64, time: f64)
+    requires { HasRoom (length (refused_text number time)) w.old }
+    ensures { Writes (refused_text number time) w.old w.new }
 {
     w.put_text(b"refused ");
-    w.put_decimal(refusal::number(Err(refusal)));
+    w.put_decimal(number);
     w.put_text(b" ");
     w.put_bits(time);
     w.put_text(b"\n");
 }
 
 // How many bytes that has.
+// By number: it is of the text above, which has any number.
 #[tactic(auto, using(crate::proofs::Most::most))]
-pub fn refused_length(refusal: Refusal) -> usize
-    ensures { result ≡ 26 + places_of 19 (refusal_number refusal) }
+pub fn refused_length(number: u64) -> usize
+    ensures { result ≡ 26 + places_of 19 number }
 {
-    26 + places(refusal::number(Err(refusal)))
+    26 + places(number)
 }
 
-// By byte: a side is that of a lent cell, which may hold any.
+// By byte: a lent cell may hold any byte, and the text of each is fixed, where a `Side` is one of two.
 fn side_length(side: u8) -> usize
     ensures { result ≡ side_length side }
 {
@@ -65,22 +64,24 @@ fn side_length(side: u8) -> usize
 }
 
 // How many bytes the lines of the first rows have.
-fn lines_length(rows: &PrintedRows<'_>) -> usize
-    requires { (rows.now.n ≤ states) × (rows.now.rows ≤ most_rows) }
-    ensures { result ≡ rows_length rows.now.n rows.now.rows rows.now.sides.now }
+// By count: the first rows of lent cells that may hold more; sides cut to them would ask for a proof that their lines are the same.
+fn lines_length(rows: usize, n: usize, sides: &[u8]) -> usize
+    requires { (rows ≤ length sides.now) × (n ≤ states) × (rows ≤ most_rows) }
+    ensures { result ≡ rows_length n rows sides.now }
 {
     let mut sum = 0;
-    for side in &rows.sides[..rows.rows] {
-        sum += 18 + side_length(*side) + 17 * rows.n;
+    for side in &sides[..rows] {
+        sum += 18 + side_length(*side) + 17 * n;
     }
     sum
 }
 
 // How many bytes the text of a run has that is not refused.
+// By count: as its lines above, of the first rows of lent cells that may hold more.
 #[tactic(auto, using(crate::proofs::Most::most))]
-pub fn run_length(rows: &PrintedRows<'_>) -> usize
-    requires { (rows.now.n ≤ states) × (rows.now.rows ≤ most_rows) }
-    ensures { result ≡ 31 + places_of 19 rows.now.rows + rows_length rows.now.n rows.now.rows rows.now.sides.now }
+pub fn run_length(rows: usize, n: usize, sides: &[u8]) -> usize
+    requires { (rows ≤ length sides.now) × (n ≤ states) × (rows ≤ most_rows) }
+    ensures { result ≡ 31 + places_of 19 rows + rows_length n rows sides.now }
 {
-    31 + places(rows.rows as u64) + lines_length(rows)
+    31 + places(rows as u64) + lines_length(rows, n, sides)
 }

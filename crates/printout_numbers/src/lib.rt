@@ -24,6 +24,7 @@ pub fn places(word: u64) -> usize
 
 // The bits of a double.
 // By hand: every NaN has the same, where `to_bits` leaves them open.
+#[tactic(auto, unfolding(crate::specs::Digits::bits_of))]
 pub fn bits(x: f64) -> u64
     ensures { result ≡ bits_of x }
 {
@@ -48,7 +49,7 @@ impl Writer<'_> {
         ensures { Writes (digits base count word) self.old self.new }
     {
         let mut left = word;
-        // By index: the digits come from the last on, and each is written ahead of the one before.
+        // By index: tried by `iter_mut().rev()`, of which nothing says what the bytes hold once they are back.
         for i in (0..count).rev() {
             self.out[self.at + i] = digit(left % base);
             left /= base;

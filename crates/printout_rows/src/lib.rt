@@ -9,7 +9,7 @@ ghost use Rattle.printout_rows.specs.Rows.{row_lines, HasRows};
 
 use printout_numbers::Writer;
 
-// By byte: a side is that of a lent cell, which may hold any.
+// By byte: a lent cell may hold any byte, and the text of each is fixed, where a `Side` is one of two.
 fn put_side(w: &mut Writer<'_>, side: u8)
     requires { HasRoom (side_length side) w.old }
     ensures { Writes (side_text side) w.old w.new }
@@ -35,7 +35,7 @@ fn put_amounts(w: &mut Writer<'_>, amounts: &[f64])
     }
 }
 
-// By byte: its side is that of a lent cell.
+// By byte: its side is that of a lent cell, which may hold any byte, and the text of each is fixed, where a `Side` is one of two.
 #[tactic(auto, using(crate::proofs::RowLengths::lengths))]
 pub fn row_line(w: &mut Writer<'_>, time: f64, side: u8, amounts: &[f64])
     requires { HasRoom (length (row_line time side amounts.now)) w.old }

@@ -1,12 +1,13 @@
 -- Lines of states, one by one, and how long the texts are.
 use mathlib.Core.Path.{◌≡◌, refl, sym, ap, ◌∙◌}
 use mathlib.Core.List.{List, [], ◌∷◌, ◌++◌, append-nil, append_assoc}
-use Prim.Native.Nat.{ℕ, zero, suc, ◌+◌, ◌*◌, ◌<◌}
+use Prim.Native.Nat.{ℕ, zero, suc, ◌+◌, ◌*◌, ◌≤◌, ◌<◌}
 use native.Mathlib.Nat.{le_of_suc-le-suc}
 use native.Mathlib.Numerals.{add-one}
 use native.Mathlib.Omega.{arith}
 use borrow.Author.Tests.{ne_eqb}
 use lib.ListN.{length, take, get_or, length-append}
+use lib.Seq.{length-take-le}
 use lib.Ieee.{Float, nan}
 use Rattle.printout.proofs.Lengths.{double_length}
 use Rattle.refusal.specs.Numbers.{refusal_number}
@@ -15,7 +16,7 @@ use Rattle.refusal.proofs.Numbers.{refusal-number}
 use Rattle.printout.specs.Replies.{refused_at}
 use Rattle.printout_steady.specs.SteadyReplies.{steady_printout_of}
 use Rattle.printout_steady.specs.SteadyPrintout.{state_line, state_lines, max_line, solved_text, steady_text}
-use Rattle.printout_steady.specs.SteadyPrintout.{solved_length}
+use Rattle.printout_steady.specs.SteadyPrintout.{solved_of, solved_length}
 
 pub line_length : (a r : Float) → length (state_line a r) ≡ 34
 unfolding state_line
@@ -47,11 +48,25 @@ pub lines_more : (k : ℕ) (xs ys : List Float) → k < length xs → k < length
     → state_lines (take k xs) (take k ys) ++ state_line (get_or xs k nan) (get_or ys k nan) ≡ state_lines (take (k + 1) xs) (take (k + 1) ys)
 lines_more k xs ys h l = rw add-one (next_line k xs ys h l)
 
+-- of the first states
+pub front_lines : (n : ℕ) (xs ys : List Float) → n ≤ length xs → n ≤ length ys → length (state_lines (take n xs) (take n ys)) ≡ 34 * n
+front_lines n xs ys h l =
+    let a : length (take n xs) ≡ n = length-take-le n xs h in
+    let r : length (take n ys) ≡ n = length-take-le n ys l in
+    omega (arith, a, lines_length_lem (take n xs) (take n ys) (omega (arith, a, r)))
+
 -- ---- the whole text
 pub solved-length : (m : Float) (xs ys : List Float) → length ys ≡ length xs
     → length (solved_text (record { amounts = xs; residuals = ys; maximum = m })) ≡ solved_length (length xs)
 unfolding solved_text
 solved-length m xs ys h = omega (arith, length-append (state_lines xs ys) (max_line m), lines_length_lem xs ys h, max_length m)
+
+pub front_length : (n : ℕ) (m : Float) (xs ys : List Float) → n ≤ length xs → n ≤ length ys
+    → length (solved_text (solved_of n m xs ys)) ≡ solved_length n
+front_length n m xs ys h l =
+    let a : length (take n xs) ≡ n = length-take-le n xs h in
+    let r : length (take n ys) ≡ n = length-take-le n ys l in
+    omega (arith, a, solved-length m (take n xs) (take n ys) (omega (arith, a, r)))
 
 -- a refusal is told by its number and its time
 pub refused-printout : (r : Refusal) (t m : Float) (n : ℕ) (amounts residual : List Float)

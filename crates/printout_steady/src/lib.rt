@@ -1,11 +1,11 @@
 // The bytes of a closed cycle's printout, into lent cells.
 #![tactic(auto)]
 
-ghost use Rattle.std.specs.Prelude.{◌≡◌, ◌+◌, ◌*◌, ◌≤◌, length};
+ghost use Rattle.std.specs.Prelude.{◌*◌, ◌≤◌, length, take};
 ghost use Rattle.limits.specs.Limits.{states};
 ghost use Rattle.printout_numbers.specs.Writer.{HasRoom, Writes};
 ghost use Rattle.printout.specs.Cells.{Wrote};
-ghost use Rattle.printout_steady.specs.SteadyPrintout.{state_line, state_lines, solved_text, solved_length};
+ghost use Rattle.printout_steady.specs.SteadyPrintout.{state_line, state_lines, solved_text, solved_of, solved_length};
 ghost use Rattle.periodic_acceptance.specs.Entry.{steady_reply};
 ghost use Rattle.printout.specs.Replies.{Prints, answer};
 ghost use Rattle.printout_steady.specs.SteadyReplies.{steady_printout_of};
@@ -27,53 +27,63 @@ fn state_line(w: &mut Writer<'_>, amount: f64, residual: f64)
     w.put_text(b"\n");
 }
 
+// The amounts of a closed cycle and their residuals, of the first n states.
+#[derive(Clone, Copy)]
+pub struct PrintedStates<'a> {
+    pub n: usize,
+    pub amounts: &'a [f64],
+    pub residual: &'a [f64],
+    ghost held: { n ≤ length amounts.now },
+    ghost told: { n ≤ length residual.now },
+}
+
 // The lines of all states.
-fn put_states(w: &mut Writer<'_>, amounts: &[f64], residual: &[f64])
-    requires { (length residual.now ≡ length amounts.now) × HasRoom (34 * length amounts.now) w.old }
-    ensures { Writes (state_lines amounts.now residual.now) w.old w.new }
+fn put_states(w: &mut Writer<'_>, solved: &PrintedStates<'_>)
+    requires { HasRoom (34 * solved.now.n) w.old }
+    ensures { Writes (state_lines (take solved.now.n solved.now.amounts.now) (take solved.now.n solved.now.residual.now)) w.old w.new }
 {
+    let amounts = &solved.amounts[..solved.n];
+    let residual = &solved.residual[..solved.n];
     for (amount, rest) in amounts.iter().zip(residual) {
         state_line(w, *amount, *rest);
     }
 }
 
 // The text of a cycle that is not refused.
-fn write_solved(maximum: f64, amounts: &[f64], residual: &[f64], out: &mut [u8]) -> usize
-    requires { (length residual.now ≡ length amounts.now) × (solved_length (length amounts.now) ≤ length out.old) }
-    ensures { Wrote (solved_text (record { amounts = amounts.now; residuals = residual.now; maximum = maximum })) 0 out.old result out.new }
+fn write_solved(solved: &PrintedStates<'_>, maximum: f64, out: &mut [u8]) -> usize
+    requires { solved_length solved.now.n ≤ length out.old }
+    ensures { Wrote (solved_text (solved_of solved.now.n maximum solved.now.amounts.now solved.now.residual.now)) 0 out.old result out.new }
 {
     let mut w = Writer { out, at: 0 };
-    put_states(&mut w, amounts, residual);
+    put_states(&mut w, solved);
     put_named(&mut w, b"max ", maximum);
     w.at
 }
 
 // The printout of a cycle that is not refused, from the front; nothing is written where there is no room for it.
-pub fn print_solved(maximum: f64, amounts: &[f64], residual: &[f64], out: &mut [u8]) -> PrintReply
-    requires { (length residual.now ≡ length amounts.now) × (length amounts.now ≤ states) }
-    ensures { Prints (answer (solved_text (record { amounts = amounts.now; residuals = residual.now; maximum = maximum }))) out.old result
+pub fn print_solved(solved: &PrintedStates<'_>, maximum: f64, out: &mut [u8]) -> PrintReply
+    requires { solved.now.n ≤ states }
+    ensures { Prints (answer (solved_text (solved_of solved.now.n maximum solved.now.amounts.now solved.now.residual.now))) out.old result
         out.new }
 {
-    if 34 * amounts.len() + 21 > out.len() {
+    if 34 * solved.n + 21 > out.len() {
         return reply_of(Ok(()), 0);
     }
-    let length = write_solved(maximum, amounts, residual, out);
+    let length = write_solved(solved, maximum, out);
     reply_of(Ok(()), length)
 }
 
-// The printout of a reply and of n states in front of the slices.
+// The printout of a reply and of the states that it solves.
 pub fn print_reply(
     reply: Result<f64, Stop>,
-    n: usize,
-    amounts: &[f64],
-    residual: &[f64],
+    solved: &PrintedStates<'_>,
     out: &mut [u8],
 ) -> PrintReply
-    requires { (n ≤ length amounts.now) × (n ≤ length residual.now) × (n ≤ states) }
-    ensures { Prints (steady_printout_of (steady_reply reply) n amounts.now residual.now) out.old result out.new }
+    requires { solved.now.n ≤ states }
+    ensures { Prints (steady_printout_of (steady_reply reply) solved.now.n solved.now.amounts.now solved.now.residual.now) out.old result out.new }
 {
     match reply {
         Err(stop) => printout::print_refused(stop.refusal, stop.time, out),
-        Ok(maximum) => print_solved(maximum, &amounts[..n], &residual[..n], out),
+        Ok(maximum) => print_solved(solved, maximum, out),
     }
 }

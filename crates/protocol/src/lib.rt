@@ -54,7 +54,8 @@ impl Event {
     }
 }
 
-// What a list holds past its last event. No variant is without values, so a derive has no default.
+// What a list holds past its last event.
+// By hand: a derive takes a variant without values, and each has some.
 impl Default for Event {
     fn default() -> Event
         ensures { result ≡ no_event }

@@ -4,7 +4,7 @@
 ghost use Rattle.std.specs.Prelude.{◌≡◌};
 ghost use Rattle.refusal.specs.Numbers.{refusal_number, reply_number};
 
-#[derive(Clone, Copy, Debug, PartialEq, Eq)]
+#[derive(Clone, Copy, Debug, PartialEq, Eq, PartialOrd, Ord)]
 pub enum Refusal {
     // Parameters outside those that `new` takes, or a kernel with such a count or volume.
     Parameters = 1,
@@ -56,13 +56,22 @@ pub enum Refusal {
     Layout = 40,
 }
 
-// 01's number of a reply; 0 stands for done.
+// 01's number of a refusal.
+impl From<Refusal> for u64 {
+    ghost from_gives = { λ r n. n ≡ refusal_number r };
+
+    fn from(refusal: Refusal) -> u64 {
+        refusal as u64
+    }
+}
+
+// The number of a reply; 0 stands for done.
 // By name: a `From` would be of two types of the library, and none of this crate.
 pub fn number(reply: Result<(), Refusal>) -> u64
     ensures { result ≡ reply_number reply }
 {
     match reply {
         Ok(()) => 0,
-        Err(refusal) => refusal as u64,
+        Err(refusal) => u64::from(refusal),
     }
 }

@@ -13,6 +13,6 @@ mod words;
 pub use error::LineError;
 pub use parameters::Parameters;
 pub use replay::{replay_lines, replay_main};
-pub use sheet::{SHEET, Sheet};
+pub use sheet::{SHEET_ROOM, Sheet};
 pub use tally::{Called, Tally};
 pub use words::{Words, doubles, numbers};

@@ -38,12 +38,11 @@ impl Parameters {
         let exchanges = doubles(alloc, words.list(exchanges)?)?;
         let depot = words.at_most(1)?;
         let rate = words.double()?;
-        let absorption = if depot == 0 { None } else { Some(rate) };
         Ok(Parameters {
             clearance,
             volumes,
             exchanges,
-            absorption,
+            absorption: (depot != 0).then_some(rate),
         })
     }
 
@@ -63,9 +62,6 @@ impl Parameters {
     pub fn state_count(&self) -> usize
         ensures { result ≤ 5 }
     {
-        match self.absorption {
-            None => self.volumes.len(),
-            Some(_) => self.volumes.len() + 1,
-        }
+        self.volumes.len() + usize::from(self.absorption.is_some())
     }
 }

@@ -6,10 +6,11 @@ ghost use Rattle.replay_answers.specs.Sheet.{parted_of, bytes_of as bytes_of_wor
 
 use crate::LineError;
 use crate::words::{number, numbers};
+use limits::SHEET_BYTES;
 use std::alloc::Global;
 
-// Eight bytes more than the longest sheet, and one word more.
-pub const SHEET: usize = 65544;
+// The most bytes of a line's sheet: one word more than a sheet has.
+pub const SHEET_ROOM: usize = SHEET_BYTES + 8;
 
 #[derive(Drop)]
 pub struct Sheet<'a> {
@@ -64,7 +65,7 @@ impl<'a> Sheet<'a> {
         let number = number(reply)?;
         let words = sheet_words(alloc, words)?;
         // The last word is not always whole.
-        if length > SHEET || words.len() != length.div_ceil(8) {
+        if length > SHEET_ROOM || words.len() != length.div_ceil(8) {
             return Err(LineError::Malformed);
         }
         let mut bytes = bytes_of(alloc, words.as_slice())?;

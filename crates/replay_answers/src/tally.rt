@@ -31,10 +31,9 @@ impl<E> Called<E> {
     }
 }
 
-// By number: what is printed for an entry goes by the numbers of its outcomes.
 #[derive(Drop)]
 pub struct Tally<E: Ord> {
-    counts: BTreeMap<(E, u64), u64>,
+    counts: BTreeMap<(E, Result<(), Refusal>), u64>,
     lines: u64,
     answers: u64,
     differ: u64,
@@ -72,8 +71,8 @@ impl<E: Ord + Display + Drop> Tally<E> {
         let mut same = false;
         if let Some(called) = called {
             same = called.same;
-            let number = refusal::number(called.outcome);
-            let count = self.counts.entry((called.entry, number))?.or_insert(0);
+            let key = (called.entry, called.outcome);
+            let count = self.counts.entry(key)?.or_insert(0);
             *count = count.saturating_add(1);
         }
         if !same {
@@ -85,7 +84,8 @@ impl<E: Ord + Display + Drop> Tally<E> {
     }
 
     pub(crate) fn print(&self, rt: &impl Print) {
-        for ((entry, number), count) in &self.counts {
+        for ((entry, outcome), count) in &self.counts {
+            let number = refusal::number(*outcome);
             let _ = println!(rt; "{entry} {number}: {count}");
         }
         let answers = self.answers;

@@ -3,7 +3,6 @@ use limits::EVENT_SIZE;
 use protocol::Window;
 use replay_answers::{Called, LineError, Parameters, Words, doubles, numbers};
 use std::alloc::Global;
-use std::fmt;
 
 // The most volumes, exchanges, events, samples and pieces of a line.
 const VOLUMES: usize = 3;
@@ -20,16 +19,6 @@ const PIECES: usize = 18;
 const CELLS: usize = 120;
 
 const CELL: u64 = 99;
-
-// The entry that the lines call.
-#[derive(Clone, Copy, PartialEq, Eq, PartialOrd, Ord)]
-pub struct NormalizePeriodicCycle;
-
-impl fmt::Display for NormalizePeriodicCycle {
-    fn fmt<W: fmt::Write>(&self, f: &mut fmt::Formatter<W>) -> fmt::Result {
-        f.write_str("normalize_periodic_cycle")
-    }
-}
 
 // The arguments of a fold; an event is its words.
 #[derive(Drop)]
@@ -51,7 +40,7 @@ impl<'a> Cycle<'a> {
     }
 }
 
-pub fn replay(alloc: Global, line: &str) -> Result<Called<NormalizePeriodicCycle>, LineError> {
+pub fn replay(alloc: Global, line: &str) -> Result<Called<&'static str>, LineError> {
     let numbers = numbers(alloc, line)?;
     let mut words = Words::new(numbers.as_slice());
     let cycle = Cycle::read(alloc, &mut words)?;
@@ -60,7 +49,7 @@ pub fn replay(alloc: Global, line: &str) -> Result<Called<NormalizePeriodicCycle
     words.end()?;
     let mut cells = vec![in alloc; CELL; CELLS]?;
     let folded = capi_fold::fold_words(
-        cycle.parameters.made().unwrap_or(linear_pk::none()),
+        cycle.parameters.made().unwrap_or_default(),
         cycle.window,
         cycle.events,
         cycle.samples.as_slice(),
@@ -72,5 +61,5 @@ pub fn replay(alloc: Global, line: &str) -> Result<Called<NormalizePeriodicCycle
     expected.resize(CELLS, CELL)?;
     let count = folded.unwrap_or(0);
     let same = count == pieces.len() / EVENT_SIZE && cells == expected;
-    Ok(Called::new(NormalizePeriodicCycle, folded.map(|_| ()), stored, same))
+    Ok(Called::new("normalize_periodic_cycle", folded.map(|_| ()), stored, same))
 }

@@ -24,6 +24,20 @@ pub enum Entry {
     Concentrations,
 }
 
+impl TryFrom<u64> for Entry {
+    type Error = LineError;
+
+    // By number: a line has the number of its entry.
+    fn try_from(number: u64) -> Result<Self, LineError> {
+        match number {
+            1 => Ok(Entry::New),
+            2 => Ok(Entry::Advance),
+            3 => Ok(Entry::Concentrations),
+            _ => Err(LineError::Malformed),
+        }
+    }
+}
+
 impl fmt::Display for Entry {
     fn fmt<W: fmt::Write>(&self, f: &mut fmt::Formatter<W>) -> fmt::Result {
         f.write_str(match self {
@@ -66,7 +80,7 @@ impl Arguments {
         entry: Entry,
     ) -> Result<(Result<(), Refusal>, Vec<f64>), AllocError> {
         let made = self.parameters.made();
-        let kernel = made.unwrap_or(linear_pk::none());
+        let kernel = made.unwrap_or_default();
         let mut cells = self.prefilled(alloc)?;
         let reply = match entry {
             Entry::New => {
@@ -90,30 +104,20 @@ impl Arguments {
 // The n by n rates of a kernel, row by row, as many as a line keeps.
 fn rates_of(alloc: Global, kernel: LinearPk) -> Result<Vec<f64>, AllocError> {
     let n = kernel.state_count();
-    let mut rates = Vec::new(alloc);
-    for row in kernel.matrix.chunks_exact(STATES).take(n) {
-        for rate in row.iter().take(n) {
-            rates.push(*rate)?;
-        }
-    }
-    rates.truncate(CELLS);
-    Ok(rates)
-}
-
-// By number: a line has the number of its entry.
-fn entry_of(number: u64) -> Result<Entry, LineError> {
-    match number {
-        1 => Ok(Entry::New),
-        2 => Ok(Entry::Advance),
-        3 => Ok(Entry::Concentrations),
-        _ => Err(LineError::Malformed),
-    }
+    kernel
+        .matrix
+        .chunks_exact(STATES)
+        .take(n)
+        .flat_map(|row| row.iter().take(n))
+        .copied()
+        .take(CELLS)
+        .collect(alloc)
 }
 
 pub fn replay(alloc: Global, line: &str) -> Result<Called<Entry>, LineError> {
     let numbers = numbers(alloc, line)?;
     let mut words = Words::new(numbers.as_slice());
-    let entry = entry_of(words.word()?)?;
+    let entry = Entry::try_from(words.word()?)?;
     let arguments = Arguments::read(alloc, &mut words)?;
     let stored = words.word()?;
     let patterns = words.list(CELLS)?;

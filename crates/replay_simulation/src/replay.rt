@@ -9,7 +9,6 @@ use replay_answers::{Called, LineError, Parameters, Words, doubles, numbers};
 use replay_numbers::same;
 use simulation_report::{Reached, Report, RunError};
 use std::alloc::{AllocError, Global};
-use std::fmt;
 
 // The most volumes, exchanges, amounts, events and samples of a line.
 const VOLUMES: usize = 3;
@@ -21,16 +20,6 @@ const AMOUNTS: usize = 4;
 const EVENTS: usize = 6;
 
 const SAMPLES: usize = 5;
-
-// The entry that the lines call.
-#[derive(Clone, Copy, PartialEq, Eq, PartialOrd, Ord)]
-pub struct Simulate;
-
-impl fmt::Display for Simulate {
-    fn fmt<W: fmt::Write>(&self, f: &mut fmt::Formatter<W>) -> fmt::Result {
-        f.write_str("simulate")
-    }
-}
 
 // The arguments of a run; an event is its words.
 #[derive(Drop)]
@@ -72,7 +61,7 @@ impl<'a> Run<'a> {
         }
         let list = events_layout::events_of(self.events);
         simulation::simulate(
-            self.parameters.made().unwrap_or(linear_pk::none()),
+            self.parameters.made().unwrap_or_default(),
             self.amounts.as_slice(),
             self.window,
             list.as_slice(),
@@ -142,7 +131,7 @@ impl<'a> Stored<'a> {
     }
 }
 
-pub fn replay(alloc: Global, line: &str) -> Result<Called<Simulate>, LineError> {
+pub fn replay(alloc: Global, line: &str) -> Result<Called<&'static str>, LineError> {
     let numbers = numbers(alloc, line)?;
     let mut words = Words::new(numbers.as_slice());
     let run = Run::read(alloc, &mut words)?;
@@ -156,7 +145,7 @@ pub fn replay(alloc: Global, line: &str) -> Result<Called<Simulate>, LineError> 
         Err(RunError::Refused(_)) => Expected::new(alloc),
         Err(RunError::Stopped { .. }) | Ok(_) => stored.expected(alloc, n, run.reckoned())?,
     };
-    let report = simulation_report::report_of(reply);
+    let report = Report::from(reply);
     let same = stored.is_report(report) && expected.is_in(&lent)?;
-    Ok(Called::new(Simulate, outcome_of(reply), stored.number, same))
+    Ok(Called::new("simulate", outcome_of(reply), stored.number, same))
 }

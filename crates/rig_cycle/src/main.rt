@@ -21,6 +21,8 @@ impl Program<CYCLE_BYTES> for RigCycle {
     }
 }
 
+// By program: each has a `main`, and lends the cells for its own printout.
 fn main(rt: HostRuntime) {
-    rig_streams::run::<RigCycle, CYCLE_BYTES>(&rt)
+    let mut text = [0u8; CYCLE_BYTES];
+    rig_streams::run::<RigCycle, _>(&rt, &mut text)
 }

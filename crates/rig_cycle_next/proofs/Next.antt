@@ -14,8 +14,7 @@ use Rattle.binary64.specs.Doubles.{nonnegative}
 use Rattle.binary64.specs.Lists.{all, amounts_pass}
 use Rattle.refusal.specs.Result.{Result, refused, done}
 use Rattle.refusal.specs.Numbers.{Reply, result_of}
-use Rattle.refusal.specs.declared.Refusal.{Refusal}
-use Rattle.std.specs.Prelude.{Ok, Err, Result as Answer}
+use Rattle.std.specs.Prelude.{Ok, Err}
 use Rattle.std.specs.Result.{is_ok}
 use Rattle.matrix.proofs.Filled.{tabulate-length}
 use Rattle.linear_pk.specs.LinearPk.{sound, state_count}

@@ -5,9 +5,8 @@ use mathlib.Core.List.{List}
 use Prim.Native.Nat.{ℕ, ◌+◌, ◌-◌, ◌≤◌}
 use native.Mathlib.Omega.{arith}
 use lib.ListN.{length, take, drop, length-append, length-drop}
-use lib.Seq.{length-take-le}
+use lib.Seq.{take_all}
 use lib.Ieee.{Float}
-use Rattle.printout.proofs.Lengths.{part-size}
 use Rattle.cycle.specs.declared.SteadyStateTolerance.{SteadyStateTolerance}
 use Rattle.cycle.specs.Closed.{Timed, stopped, got}
 use Rattle.printout.specs.Replies.{answer}
@@ -28,9 +27,13 @@ text_some (got x) =
     seven true = omega arith
     seven false = omega arith
 
--- a part of the values, of n cells
-pub part_length : (from m n : ℕ) (values : List Float) → m ≡ n → from + n ≤ length values → length (take (from + m - from) (drop from values)) ≡ m
-part_length from m n values e h = rw (part-size from m) (length-take-le m (drop from values) (omega (arith, length-drop from values)))
+-- the values from a place on
+rest : (from : ℕ) (values : List Float) → take (length values - from) (drop from values) ≡ drop from values
+rest from values = take_all (length values - from) (drop from values) (omega (arith, length-drop from values))
+
+-- n of them
+pub part_within : (from m n : ℕ) (values : List Float) → m ≡ n → from + n ≤ length values → m ≤ length (take (length values - from) (drop from values))
+part_within from m n values e h = rw (rest from values) (omega (arith, e, h, length-drop from values))
 
 -- ---- one more cycle, of n states, whose end stands in the values
 module _ (tol : SteadyStateTolerance) (n : ℕ) (starts residuals values : List Float) (from : ℕ) where
@@ -38,7 +41,12 @@ module _ (tol : SteadyStateTolerance) (n : ℕ) (starts residuals values : List 
   ending = record { tolerance = tol; starts = starts; ends = take n (drop from values); residuals = residuals }
 
   pub next-printout : {o : Timed NextCycle} → o ≡ got ending → {tol' : SteadyStateTolerance} {m : ℕ} → tol' ≡ tol → m ≡ n
-      → answer (lines_text (record { tolerance = tol'; starts = starts; ends = take (from + m - from) (drop from values); residuals = residuals }))
-      ≡ cycle_printout o
+      → length starts ≡ n → length residuals ≡ n
+      → answer (lines_text (record {
+        tolerance = tol';
+        starts = take m starts;
+        ends = take m (take (length values - from) (drop from values));
+        residuals = take m residuals;
+      })) ≡ cycle_printout o
   unfolding cycle_text
-  next-printout e t d = rw (t, d, e, part-size from n)
+  next-printout e t d s r = rw (t, d, e, rest from values, take_all n starts (omega (arith, s)), take_all n residuals (omega (arith, r)))

@@ -21,6 +21,8 @@ impl Program<RUN_BYTES> for RigRun {
     }
 }
 
+// By program: each has a `main`, and lends the cells for its own printout.
 fn main(rt: HostRuntime) {
-    rig_streams::run::<RigRun, RUN_BYTES>(&rt)
+    let mut text = [0u8; RUN_BYTES];
+    rig_streams::run::<RigRun, _>(&rt, &mut text)
 }

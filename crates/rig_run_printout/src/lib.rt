@@ -6,7 +6,7 @@ ghost use Rattle.limits.specs.Limits.{read_amounts};
 ghost use Rattle.refusal.specs.Numbers.{reply_number};
 ghost use Rattle.linear_pk.specs.LinearPk.{state_count};
 ghost use Rattle.printout.specs.Replies.{Prints};
-ghost use Rattle.rig_run_printout.specs.BodiesPrintout.{reckoned_in, doses_in, bodies_printout};
+ghost use Rattle.rig_run_printout.specs.BodiesPrintout.{reckoned_in, bodies_printout};
 ghost use Rattle.printout.specs.Cells.{printed, printed_length};
 ghost use Rattle.printout.specs.Printouts.{number_into};
 ghost use Rattle.rig_run_printout.specs.Rig.{printout_of_bytes};
@@ -15,7 +15,8 @@ use limits::{EVENT_BYTES, READ_AMOUNTS, SAMPLES, SHEET_ROWS, SHEET_VALUES, STATE
 use linear_pk::LinearPk;
 use printout::{PrintReply, print_refusal, print_refused, print_run};
 use printout_rows::PrintedRows;
-use rig_run_sheet::{cells, known, side_cells, simulate_bodies};
+use rig_run_sheet::{known, simulate_bodies};
+use rows::cells;
 use sheet::Part;
 use sheet_events::ordered;
 use sheet_kernel::{Bodies, read_bodies};
@@ -24,16 +25,8 @@ use simulation_report::RunError;
 // The most bytes of a printout: "rows", three digits and "ordered", and the most rows, each with the longer side.
 pub const RUN_BYTES: usize = 34 + SHEET_ROWS * (22 + 17 * STATES);
 
-// The sum of the doses. Apart, so that the list lies in no frame of the run.
-#[inline(never)]
-fn summed_doses(bodies: &Bodies) -> f64
-    ensures { result ≡ doses_in bodies.now }
-{
-    let list = events_layout::events_of(Part(bodies.events));
-    ordered(list.as_slice())
-}
-
 // Runs a kernel and the other bodies in lent cells, and prints the run.
+// By slices: tried with `rows::Rows`, of whose slices the borrow check does not cover that all three are lent at once for the printout.
 fn run_cells(
     kernel: LinearPk,
     bodies: &Bodies,
@@ -74,7 +67,7 @@ fn run_cells(
                 sides,
                 values,
             };
-            print_run(&rows, summed_doses(bodies), out)
+            print_run(&rows, ordered(Part(bodies.events)), out)
         }
     }
 }
@@ -90,7 +83,7 @@ pub fn run_bodies(kernel: LinearPk, bodies: &Bodies, out: &mut [u8]) -> PrintRep
     let mut initial = [0.0f64; READ_AMOUNTS];
     let mut readings: [f64; SAMPLES] = cells();
     let mut times: [f64; SHEET_ROWS] = cells();
-    let mut sides = side_cells();
+    let mut sides: [u8; SHEET_ROWS] = cells();
     let mut values: [f64; SHEET_VALUES] = cells();
     run_cells(
         kernel,
@@ -105,6 +98,7 @@ pub fn run_bodies(kernel: LinearPk, bodies: &Bodies, out: &mut [u8]) -> PrintRep
 }
 
 // The printout of a sheet, from the front of out. Where it has no room there nothing is written, and an answer is 4.
+// By its own entry: `steady_sheet` and `cycle_sheet` call others, and one function over the three would ask for a closure with this contract from each.
 pub fn run_sheet(bytes: &[u8], out: &mut [u8]) -> PrintReply
     ensures reply_value { reply_number result.reply ≡ number_into out.old (printout_of_bytes bytes.now) }
     ensures length_value { result.length ≡ printed_length (printout_of_bytes bytes.now).text out.old }

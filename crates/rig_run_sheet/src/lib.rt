@@ -1,31 +1,18 @@
-// The run of a kernel and the other bodies of a sheet, and cells for the most that a sheet holds.
+// The run of a kernel and the other bodies of a sheet.
 #![tactic(auto)]
 
 ghost use Rattle.std.specs.Prelude.{◌≡◌, cond, leb, length, ◌*◌, ◌/◌, ◌≤◌};
-ghost use Rattle.limits.specs.Limits.{most_cycle_events, event_size, sheet_rows, read_amounts};
+ghost use Rattle.limits.specs.Limits.{most_cycle_events, event_size, read_amounts};
 ghost use Rattle.linear_pk.specs.LinearPk.{state_count};
 ghost use Rattle.protocol.specs.Entry.{report_of, times_at_exit, sides_at_exit, values_at_exit};
 ghost use Rattle.simulation_report.specs.Replies.{run_reply};
 ghost use Rattle.sheet.specs.Sheet.{words_of};
 ghost use Rattle.rig_run_sheet.specs.SheetRun.{run_with, reckoned_of};
 
-use limits::{READ_AMOUNTS, SHEET_ROWS};
+use limits::READ_AMOUNTS;
 use linear_pk::LinearPk;
 use sheet::Part;
 use simulation_report::{Reached, RunError};
-
-// Cells for numbers, and for the sides of the most rows. What they hold is of no matter: a contract of their length alone keeps it out of proofs.
-pub fn cells<const N: usize>() -> [f64; N]
-    ensures { N ≡ length result }
-{
-    [0.0; N]
-}
-
-pub fn side_cells() -> [u8; SHEET_ROWS]
-    ensures { sheet_rows ≡ length result }
-{
-    [0; SHEET_ROWS]
-}
 
 // How many amounts are read.
 pub fn known(given: usize) -> usize
@@ -35,6 +22,7 @@ pub fn known(given: usize) -> usize
 }
 
 // The run of a kernel and the other bodies, into slices of the reckoned rows.
+// By body: `Bodies` keeps a limit of samples too, and a run asks for none.
 pub fn simulate_bodies(
     kernel: LinearPk,
     window: &[u8],

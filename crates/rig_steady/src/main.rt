@@ -21,6 +21,8 @@ impl Program<STEADY_BYTES> for RigSteady {
     }
 }
 
+// By program: each has a `main`, and lends the cells for its own printout.
 fn main(rt: HostRuntime) {
-    rig_streams::run::<RigSteady, STEADY_BYTES>(&rt)
+    let mut text = [0u8; STEADY_BYTES];
+    rig_streams::run::<RigSteady, _>(&rt, &mut text)
 }

@@ -12,8 +12,8 @@ ghost use Rattle.printout_steady.specs.SteadyReplies.{steady_printout};
 use limits::{SAMPLES, STATES};
 use periodic_acceptance::Stop;
 use printout::PrintReply;
-use printout_steady::print_reply;
-use rig_run_sheet::cells;
+use printout_steady::{PrintedStates, print_reply};
+use rows::cells;
 use sheet::Part;
 use sheet_kernel::{ReadSheet, tolerance_of};
 
@@ -55,5 +55,10 @@ pub fn steady_bodies(sheet: &ReadSheet, out: &mut [u8]) -> PrintReply
     let amounts = &mut solution[..n];
     let residual = &mut change[..n];
     let reply = solve_bodies(sheet, amounts, residual);
-    print_reply(reply, n, amounts, residual, out)
+    let solved = PrintedStates {
+        n,
+        amounts,
+        residual,
+    };
+    print_reply(reply, &solved, out)
 }

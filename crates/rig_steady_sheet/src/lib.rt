@@ -17,7 +17,7 @@ use sheet_kernel::read_bodies;
 pub const STEADY_BYTES: usize = 34 * STATES + 21;
 
 // The printout of a sheet's closed cycle, from the front of out. Where it has no room there nothing is written, and an answer is 4.
-// By its own entry: `cycle_sheet` calls another, and one function over both would ask for a closure with this contract from each.
+// By its own entry: `run_sheet` and `cycle_sheet` call others, and one function over the three would ask for a closure with this contract from each.
 pub fn steady_sheet(bytes: &[u8], out: &mut [u8]) -> PrintReply
     ensures reply_value { reply_number result.reply ≡ number_into out.old (steady_printout_of_bytes bytes.now) }
     ensures length_value { result.length ≡ printed_length (steady_printout_of_bytes bytes.now).text out.old }

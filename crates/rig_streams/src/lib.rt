@@ -1,17 +1,18 @@
 // A program over a sheet: how it reads, and what of its printout is written.
 #![tactic(auto)]
 
-ghost use Rattle.std.specs.Prelude.{◌≡◌, ◌≤◌, ◌<◌, ℕ, List, true, length, take};
+ghost use Rattle.std.specs.Prelude.{◌≡◌, ◌≤◌, ℕ, List, OnOk, length, take};
 ghost use Rattle.std.specs.Io.KnownBytes.{Consumes, Appends};
 
 use limits::SHEET_BYTES;
-use std::io::{Read, Write};
+use std::io::{self, Read, Write};
 
 // A program over a sheet, and room for its printout of any.
 pub trait Program<const ROOM: usize> {
     ghost text: { List ℕ → List ℕ };
 
     // The program's name.
+    // By name: it has no contract, as it stands in the message of a failed write alone, and no clause tells what standard error is given.
     fn name() -> &'static str;
 
     // The printout of the sheet, from the front of out; how long it is.
@@ -38,28 +39,26 @@ pub fn read_full<R: Read>(input: &mut R, bytes: &mut [u8]) -> usize
     done
 }
 
-// Writes the sheet's printout; whether all of it was written.
+// Writes the sheet's printout.
 pub fn write_printout<P: Program<ROOM>, const ROOM: usize, W: Write>(
     sheet: &[u8],
     text: &mut [u8; ROOM],
     out: &mut W,
-) -> bool
-    ensures { result ≡ true → Appends (W.contents out.old) (W.contents out.new) (P.text sheet.now) }
+) -> io::Result<()>
+    ensures { OnOk result (Appends (W.contents out.old) (W.contents out.new) (P.text sheet.now)) }
 {
     let length = P::print(sheet, text);
-    out.write_all(&text[..length]).is_ok()
+    out.write_all(&text[..length])
 }
 
-// Reads a sheet on standard input to its end, and writes its printout on standard output.
-pub fn run<P: Program<ROOM>, const ROOM: usize>(rt: &HostRuntime)
-    requires { ROOM < 9223372036854775808 }
-{
+// Reads a sheet on standard input to its end, and writes its printout on standard output; it is printed into lent cells.
+// By channels: no clause over `rt` tells what its channels hold; what is read and written is promised by `read_full` and `write_printout`.
+pub fn run<P: Program<ROOM>, const ROOM: usize>(rt: &HostRuntime, text: &mut [u8; ROOM]) {
     // Room for a sheet and one byte more: a longer file is as unfit as this much of it.
     let mut bytes = [0u8; SHEET_BYTES + 1];
     let n = read_full(&mut rt.stdin(), &mut bytes);
-    let mut text = [0u8; ROOM];
-    let written = write_printout::<P, ROOM, _>(&bytes[..n], &mut text, &mut rt.stdout());
-    if !written {
+    let written = write_printout::<P, ROOM, _>(&bytes[..n], text, &mut rt.stdout());
+    if written.is_err() {
         let name = P::name();
         let _ = eprintln!(rt; "{name}: standard output cannot be written");
     }

@@ -5,7 +5,7 @@ use native.Mathlib.Nat.{add-zero, le_of_suc-le-suc, not-suc-le-zero, mul-le-mul_
 use native.Mathlib.Numerals.{add-one}
 use native.Mathlib.Omega.{arith}
 use mathlib.Core.List.{List, [], ◌∷◌, ◌++◌, append-nil}
-use lib.ListN.{length, take, drop, set, length-drop, drop_of_length-le}
+use lib.ListN.{length, take, drop, set, replicate, length-drop, drop_of_length-le}
 use lib.Seq.{take_all}
 use borrow.Rule.Slice.PartMut.{put_mid, Post-is}
 use Rattle.protocol.specs.Execute.{Row}
@@ -92,3 +92,12 @@ pub room_here : (n k : ℕ) {c : Cells} → RoomForRows n (k + 1) c → Here n k
 room_here n k h =
     let e : (k + 1) * n ≡ k * n + n = ap (λ (j : ℕ). j * n) (add-one k) ∙ suc-mul k n in
     record { times = omega (arith, h.times); sides = omega (arith, h.sides); values = omega (arith, h.values) }
+
+-- one more of the first cells filled
+pub fill_next : {A : Type 0} (i : ℕ) (a : A) (xs : List A) → i < length xs → set (replicate i a ++ drop i xs) i a ≡ replicate (i + 1) a ++ drop (i + 1) xs
+fill_next {A} i a xs h = rw add-one (from i xs h)
+  where
+    from : (i : ℕ) (xs : List A) → i < length xs → set (replicate i a ++ drop i xs) i a ≡ replicate (suc i) a ++ drop (suc i) xs
+    from i [] h = absurd (not-suc-le-zero h)
+    from zero (x ∷ xs) h = refl
+    from (suc i) (x ∷ xs) h = ap (◌∷◌ a) (from i xs (le_of_suc-le-suc h))

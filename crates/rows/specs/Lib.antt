@@ -3,3 +3,4 @@ pub mod Onward
 pub mod Sides
 pub mod Lent
 pub mod Standing
+pub mod Legs

@@ -1,17 +1,17 @@
 // The blocks of a run: a row written into lent slices, the kernel's advance and the arrival at a boundary.
-// By fixed memory: n, the count of a kernel's states, stands beside arrays of the most states, since there is no heap.
+// By fixed memory: n, the count of a kernel's states, stands beside arrays of the most states, since there is no heap; n is the same all the way, and a state that held it would have to show at each step that it stays.
 #![tactic(auto)]
 
-ghost use Rattle.std.specs.Prelude.{◌≡◌, [], ◌∷◌, ◌++◌, ℕ, ◌+◌, ◌≤◌, ◌<◌, length, take, drop};
+ghost use Rattle.std.specs.Prelude.{◌≡◌, [], ◌++◌, ◌+◌, ◌*◌, ◌≤◌, ◌<◌, length, drop};
 ghost use Rattle.limits.specs.Limits.{states};
-ghost use Rattle.protocol.specs.Schedule.{arrive as arrives};
-ghost use Rattle.rows.specs.Written.{Cells, with_row_at, RoomForRows};
+ghost use Rattle.rows.specs.Written.{with_row_at, RoomForRows};
 ghost use Rattle.rows.specs.Lent.{cells_of, SameSlices, row_of};
-ghost use Rattle.protocol.specs.Entry.{side_code};
+ghost use Rattle.binary64.specs.Doubles.{plus_zero};
+ghost use Rattle.protocol.specs.Entry.{side_code, front_then_zeros};
 ghost use Rattle.rows.specs.Onward.{with_amounts, stops_with, past_row, past_advance};
-ghost use Rattle.rows.specs.Standing.{kernel_advance, Ran};
 ghost use Rattle.rows.specs.Sides.{side_of};
-ghost use Rattle.refusal.specs.Numbers.{outcome_with};
+
+mod legs;
 
 use limits::STATES;
 use linear_pk::LinearPk;
@@ -42,12 +42,11 @@ pub enum Side {
     Post = 2,
 }
 
-impl Side {
-    // By name: the byte of its kind, at the one place that writes it.
-    fn code(self) -> u8
-        ensures { result ≡ side_code (side_of self) }
-    {
-        self as u8
+impl From<Side> for u8 {
+    ghost from_gives = { λ side code. code ≡ side_code (side_of side) };
+
+    fn from(side: Side) -> u8 {
+        side as u8
     }
 }
 
@@ -93,13 +92,31 @@ impl Progress {
     }
 }
 
-// The row writer: a row's amounts from the front of the part of the values that is lent to it; the cells behind them stay.
-// By hand: `copy_from_slice` asks for equal lengths.
+// The row writer: a row's amounts from the front of the part of the values that is lent to it.
+// By name: 01 names the row writer, whose part has the cells of later rows too, which stay; `lay` leaves them as they are.
 fn row_writer(amounts: &[f64], part: &mut [f64])
     requires { length amounts.now ≤ length part.old }
     ensures { part.new ≡ amounts.now ++ drop (length amounts.now) part.old }
 {
-    part[..amounts.len()].copy_from_slice(amounts);
+    linear_pk_interval::lay(amounts, part);
+}
+
+// Cells for the rows of a run. What they hold is of no matter: a contract of their length alone keeps it out of proofs.
+pub fn cells<T: Copy + Default, const N: usize>() -> [T; N]
+    ensures { N ≡ length result }
+{
+    [T::default(); N]
+}
+
+// The value into the first cells.
+// By loop: `fill` asks that a clone cannot fail, which `Copy` does not tell.
+fn fill_front<T: Copy>(cells: &mut [T], count: usize, value: T)
+    requires { count ≤ length cells.old }
+    ensures { cells.new ≡ front_then_zeros value count [] cells.old }
+{
+    for cell in &mut cells[..count] {
+        *cell = value;
+    }
 }
 
 // The slices that the rows of a run are written into: times and sides, a cell a row, and values, n amounts from place row × n on.
@@ -120,49 +137,33 @@ impl Rows<'_> {
     {
         let row = start.rows;
         self.times[row] = t;
-        self.sides[row] = side.code();
+        self.sides[row] = u8::from(side);
         let at = row * n;
         let amounts = start.amounts;
         row_writer(&amounts[..n], &mut self.values[at..]);
         start.past_row()
     }
+
+    // Zeros over the first rows, of n amounts each.
+    pub fn clear(&mut self, n: usize, rows: usize)
+        requires { RoomForRows n rows (cells_of self.old) }
+        ensures times_after { self.new.times.now ≡ front_then_zeros plus_zero rows [] self.old.times.now }
+        ensures sides_after { self.new.sides.now ≡ front_then_zeros 0 rows [] self.old.sides.now }
+        ensures values_after { self.new.values.now ≡ front_then_zeros plus_zero (rows * n) [] self.old.values.now }
+        ensures slices { SameSlices self.old self.new }
+    {
+        fill_front(&mut self.times[..], rows, 0.0);
+        fill_front(&mut self.sides[..], rows, 0);
+        fill_front(&mut self.values[..], rows * n, 0.0);
+    }
 }
 
-// The kernel's advance over n states.
-fn propagate(
-    kernel: LinearPk,
-    n: usize,
-    amounts: [f64; STATES],
-    rates: [f64; STATES],
-    duration: f64,
-) -> Result<[f64; STATES], Refusal>
-    requires { n ≤ states }
-    ensures { outcome_with (take n) result ≡ kernel_advance kernel n (take n amounts) (take n rates) duration }
-{
-    let mut next = [0.0f64; STATES];
-    kernel.advance(&amounts[..n], &rates[..n], duration, &mut next[..n])?;
-    Ok(next)
-}
-
-// The advance from the boundary t to the time u, the next boundary's or a reading's: 30 where the budget is spent, or the kernel's refusal.
-pub fn arrive(
-    kernel: LinearPk,
-    n: usize,
-    t: f64,
-    rates: [f64; STATES],
-    u: f64,
-    start: Progress,
-) -> Result<Progress, Stopped>
-    requires { (n ≤ states) × (start.made < 4294967296) }
-    ensures { (c : Cells) → Ran (kernel_advance kernel n) n start (arrives t (take n rates) u ∷ []) c result c }
-{
-    let next = start.past_advance();
-    if start.left == 0 {
-        return Err(next.stopped_by(Refusal::PropagationBudget, u));
-    }
-    let amounts = start.amounts;
-    match propagate(kernel, n, amounts, rates, u - t) {
-        Err(refusal) => Err(next.stopped_by(refusal, u)),
-        Ok(reached) => Ok(next.with_amounts(reached)),
-    }
+// A leg of a run: the kernel's n states, from the boundary t on at the summed rates.
+#[derive(Clone, Copy)]
+pub struct Leg {
+    pub kernel: LinearPk,
+    pub n: usize,
+    pub t: f64,
+    pub rates: [f64; STATES],
+    ghost within: { n ≤ states },
 }

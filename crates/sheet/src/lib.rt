@@ -32,7 +32,7 @@ pub fn model_fits(part: &[u8]) -> bool
             & ((volumes <= VOLUMES as u64) & (count as u64 == 2 * (volumes % STATES as u64) + 3)))
 }
 
-// A part of a file, as its little-endian 64-bit words. By word, since bytes lend no slice of words.
+// A part of a file, as its little-endian 64-bit words.
 #[derive(Clone, Copy)]
 pub struct Part<'a>(pub &'a [u8]);
 
@@ -43,6 +43,7 @@ impl<'a> Words for Part<'a> {
         self.0.len() / 8
     }
 
+    // By word: the trait's method; bytes hold no `u64` that `Index` could lend.
     fn word(&self, i: usize) -> u64 {
         sheet_words::word(self.0, i)
     }

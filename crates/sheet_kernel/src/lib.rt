@@ -19,16 +19,12 @@ use linear_pk::LinearPk;
 use refusal::Refusal;
 use sheet_words::Places;
 
-// By hand: the depot's word is a flag, and the next one is a number only beside it; there is no single value to convert from.
+// By the part: two of its words tell it, and a `From` would have to take any bytes, also too few.
 fn absorption_of(part: &[u8]) -> Option<f64>
     requires { 32 ≤ length part.now }
     ensures { result ≡ model_absorption (words_of part.now) }
 {
-    if sheet_words::word(part, 1) == 1 {
-        Some(sheet_values::double(part, 2))
-    } else {
-        None
-    }
+    (sheet_words::word(part, 1) == 1).then_some(sheet_values::double(part, 2))
 }
 
 // The kernel of volumes and exchanges that are laid out in front.

@@ -34,6 +34,7 @@ pub struct Places {
 }
 
 // The end of body k where it starts at a place and lies in the file; else a place past the file.
+// By place: `at` is the word that the file must name, and no index; the bytes behind it alone would not have the pair.
 fn next(bytes: &[u8], k: usize, at: usize) -> usize
     requires { (k < 5) × (88 ≤ length bytes.now) × (at ≤ length bytes.now / 8 + 1) }
     ensures { (result ≡ next_of (words_of bytes.now) at k) × (result ≤ length bytes.now / 8 + 1) }

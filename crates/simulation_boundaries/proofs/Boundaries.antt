@@ -2,7 +2,7 @@
 use mathlib.Core.Path.{◌≡◌, refl, sym, ap, ◌∙◌, subst}
 use mathlib.Core.Bool.{Bool, false}
 use mathlib.Core.List.{List, [], ◌∷◌, ◌++◌, append_assoc}
-use Prim.Native.Nat.{ℕ, suc, ◌+◌, ◌<◌, ◌≤◌}
+use Prim.Native.Nat.{ℕ, suc, ◌+◌, ◌-◌, ◌<◌, ◌≤◌, min}
 use native.Mathlib.Numerals.{add-one}
 use native.Mathlib.Omega.{arith}
 use lib.ListN.{length, get_or, drop, take, replicate}
@@ -15,7 +15,8 @@ use Rattle.protocol.specs.Execute.{Propagator}
 use Rattle.protocol.specs.declared.Event.{Event}
 use Rattle.rows.specs.Written.{Cells}
 use Rattle.std.specs.Prelude.{Ok, Err, Result}
-use Rattle.std.proofs.Common.{drop_of_length-le}
+use Rattle.std.proofs.Common.{drop_of_length-le, not-suc-le-zero}
+use lib.Seq.{take_all}
 use Rattle.rows.specs.Standing.{Ran, Fits}
 use Rattle.rows.specs.declared.Progress.{Progress}
 use Rattle.rows.specs.declared.Stopped.{Stopped}
@@ -148,3 +149,23 @@ module _ (advance : Propagator) (n : ℕ) (es : List Event) (ss bs : List Float)
 -- no event is marked
 pub marks_none : (es : List Event) → length es ≤ most_events → take (length es) (replicate most_events false) ≡ replicate (length es) false
 marks_none es h = take-replicate (length es) most_events false h
+
+-- ---- the boundaries as pairs of neighbours
+abbrev pub behind : List Float → List Float
+behind bs = take (length bs - 1) (drop 1 bs)
+
+whole_behind : (x : Float) (bs : List Float) → behind (x ∷ bs) ≡ bs
+whole_behind x bs = take_all (length (x ∷ bs) - 1) bs (omega arith)
+
+pub one_behind : (bs : List Float) (k : ℕ) → k < length (behind bs) → (suc k < length bs) × (get_or (behind bs) k nan ≡ get_or bs (k + 1) nan)
+one_behind [] k h = absurd (not-suc-le-zero h)
+one_behind (x ∷ bs) k h =
+    let e = whole_behind x bs in
+    let l : length (behind (x ∷ bs)) ≡ length bs = ap length e in
+    (omega (arith, l), ap (λ (ys : List Float). get_or ys k nan) e ∙ rw add-one refl)
+
+pub pairs-count : (bs : List Float) (k : ℕ) → 1 ≤ length bs → k ≡ min (length bs) (length (behind bs)) → length bs - 1 ≡ k
+pairs-count [] k h e = absurd (not-suc-le-zero h)
+pairs-count (x ∷ bs) k h e =
+    let l : length (behind (x ∷ bs)) ≡ length bs = ap length (whole_behind x bs) in
+    omega (arith, e, l)

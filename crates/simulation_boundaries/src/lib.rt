@@ -1,5 +1,5 @@
 // The loop over boundaries of the analytic run.
-// By fixed memory: n, the count of a kernel's states, stands beside arrays of the most states, since there is no heap.
+// By contract: n is any count up to the most states, as the definitions take it; the kernel's own would be a tighter clause.
 #![tactic(auto)]
 
 ghost use Rattle.std.specs.Prelude.{◌≤◌, length};
@@ -8,10 +8,12 @@ ghost use Rattle.protocol.specs.Schedule.{from_first};
 ghost use Rattle.rows.specs.Lent.{cells_of, SameSlices};
 ghost use Rattle.rows.specs.Standing.{Ran, Fits, kernel_advance};
 
+use doses::Boundary;
+use doses_steps::Instant;
 use limits::EVENTS;
 use linear_pk::LinearPk;
 use protocol::Event;
-use rows::{Progress, Rows, Stopped};
+use rows::{Leg, Progress, Rows, Stopped};
 
 // From the first boundary to the last, or to the first step that refuses.
 pub fn over_boundaries(
@@ -31,19 +33,25 @@ pub fn over_boundaries(
         (cells_of rows.old) result (cells_of rows.new) }
     ensures slices { SameSlices rows.old rows.new }
 {
-    let last = bounds.len() - 1;
     let mut unmarked = [false; EVENTS];
     let marks = &mut unmarked[..events.len()];
     let mut p = start;
-    // By index: a boundary and the one behind it, with the last block outside the loop, are no plainer as windows.
-    for b in 0..last {
-        let t = bounds[b];
-        let q = rows_boundary::at_boundary(events, n, t, p, rows)?;
+    for (&t, &u) in bounds.iter().zip(&bounds[1..]) {
+        let at = Instant { n, t };
+        let boundary = Boundary { events, at };
+        let q = rows_boundary::at_boundary(&boundary, p, rows)?;
         events_at::marks::mark(events, t, marks);
         let rates = events_at::rates::summed_rates(events, n, t, marks);
-        let u = bounds[b + 1];
-        p = rows_interval::on_interval(kernel, n, t, rates, u, samples, q, rows)?;
+        let leg = Leg {
+            kernel,
+            n,
+            t,
+            rates,
+        };
+        p = rows_interval::on_interval(&leg, u, samples, q, rows)?;
     }
-    let end = bounds[last];
-    rows_boundary::at_boundary(events, n, end, p, rows)
+    let end = bounds[bounds.len() - 1];
+    let at = Instant { n, t: end };
+    let boundary = Boundary { events, at };
+    rows_boundary::at_boundary(&boundary, p, rows)
 }

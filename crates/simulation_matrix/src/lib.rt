@@ -1,5 +1,5 @@
 // The analytic run of `simulate_matrix`: the boundaries, the distinct samples, and the run over them.
-// By fixed memory: n, the count of a kernel's states, stands beside arrays of the most states, since there is no heap.
+// By contract: n is any count up to the most states, as the definitions take it; the kernel's own would be a tighter clause.
 #![tactic(auto)]
 
 ghost use Rattle.std.specs.Prelude.{◌≡◌, ◌≤◌, T, length};
@@ -18,8 +18,7 @@ ghost use Rattle.rows.specs.Standing.{Ran, kernel_advance};
 ghost use Rattle.simulation_matrix.specs.Started.{started};
 
 use arrayvec::ArrayVec;
-use events_boundaries::Boundaries;
-use limits::{SAMPLES, STATES};
+use limits::{BOUNDARIES, SAMPLES, STATES};
 use linear_pk::LinearPk;
 use protocol::{Event, Window};
 use rows::{Progress, Rows, Stopped};
@@ -32,9 +31,7 @@ fn distinct(samples: &[f64], readings: &mut Readings)
     ensures { (readings.new.items ≡ sorted_unique samples.now) × T (all (fits binary64) samples.now) }
 {
     readings.clear();
-    for sample in samples {
-        readings.push(*sample);
-    }
+    readings.try_extend_from_slice(samples).unwrap();
     let kept = events_times::sorted_unique(readings.as_mut_slice());
     readings.truncate(kept);
 }
@@ -59,8 +56,8 @@ pub fn on_schedule(
 {
     let mut readings = Readings::new();
     distinct(samples, &mut readings);
-    let mut bounds = Boundaries::new();
-    events_boundaries::boundaries(window, events, &mut bounds);
+    let mut bounds = [0.0f64; BOUNDARIES];
+    let reached = events_boundaries::boundaries(window, events, &mut bounds);
     let start = Progress {
         amounts: initial,
         left: window.propagations,
@@ -71,7 +68,7 @@ pub fn on_schedule(
         kernel,
         n,
         events,
-        bounds.as_slice(),
+        &bounds[..reached],
         readings.as_slice(),
         start,
         rows,

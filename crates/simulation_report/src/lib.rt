@@ -34,7 +34,7 @@ impl From<Refusal> for RunError {
     }
 }
 
-// A reply as numbers, for C and for a sheet; 0 is the number of a run that reached its end.
+// A reply as numbers, for C and for stored answers; 0 is the number of a run that reached its end.
 #[derive(Clone, Copy)]
 pub struct Report {
     // By number: C is given it.
@@ -44,36 +44,35 @@ pub struct Report {
     pub advances: u64,
 }
 
-pub fn report_of(reply: Result<Reached, RunError>) -> Report
-    ensures { reported result ≡ run_reply reply }
-{
-    match reply {
-        Err(RunError::Refused(refusal)) => Report {
-            number: refusal::number(Err(refusal)),
-            time: 0.0,
-            rows: 0,
-            advances: 0,
-        },
-        Err(
-            RunError::Stopped {
-                refusal,
-                time,
+impl From<Result<Reached, RunError>> for Report {
+    ghost from_gives = { λ r s. reported s ≡ run_reply r };
+
+    fn from(reply: Result<Reached, RunError>) -> Report {
+        match reply {
+            Ok(Reached { rows, advances }) => Report {
+                number: 0,
+                time: 0.0,
+                rows,
                 advances,
             },
-        ) => {
-            let number = refusal::number(Err(refusal));
-            Report {
-                number,
+            Err(RunError::Refused(ahead)) => Report {
+                number: ahead.into(),
+                time: 0.0,
+                rows: 0,
+                advances: 0,
+            },
+            Err(
+                RunError::Stopped {
+                    refusal,
+                    time,
+                    advances,
+                },
+            ) => Report {
+                number: refusal.into(),
                 time,
                 rows: 0,
                 advances,
-            }
+            },
         }
-        Ok(Reached { rows, advances }) => Report {
-            number: 0,
-            time: 0.0,
-            rows,
-            advances,
-        },
     }
 }

@@ -1,3 +1,4 @@
+pub mod Cases
 pub mod Demand3
 pub mod Simulate
 pub mod PeriodicSteadyState

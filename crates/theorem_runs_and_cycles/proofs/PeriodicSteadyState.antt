@@ -26,7 +26,7 @@ use Rattle.theorem_runs_and_cycles.specs.PeriodicSteadyState.{Slices, Call, call
 use Rattle.theorem_runs_and_cycles.specs.PeriodicSteadyState.{candidate, YieldsOn, AcceptsOn, RejectsOn, AtAnswer, AtRefusal}
 use Rattle.theorem_runs_and_cycles.specs.PeriodicSteadyState.{Replied, EverySteadyState}
 use Rattle.theorem_runs_and_cycles.proofs.Demand3.{demand_3}
-use Rattle.theorem_runs_and_cycles.proofs.Simulate.{not_zero}
+use Rattle.theorem_runs_and_cycles.proofs.Cases.{not_zero, positive, by_timed}
 
 -- ---- a candidate has n amounts, and n residuals
 solved-length : (n : ℕ) (s : System) (d : ℕ) → length (solve_to n s d) ≡ n
@@ -49,10 +49,6 @@ residuals-length : (n : ℕ) (a e : List Float) → length (residuals_of n a e) 
 unfolding residuals_of
 residuals-length n a e = tabulate-length (λ i. sub binary64 (cell e i) (cell a i)) n
 
-positive : (m : ℕ) → T (one_of m closed_numbers) → 0 < m
-positive zero h = absurd h
-positive (suc m) h = omega arith
-
 -- ---- one call
 module _ (c : Call) (r : P.SteadyReply) (exit : Slices) (q : Contract c r exit) where
   -- the reply and the slices of a refusal
@@ -70,11 +66,10 @@ module _ (c : Call) (r : P.SteadyReply) (exit : Slices) (q : Contract c r exit) 
       }
 
   unchanged : 0 < (steady_reply r).number → AtRefusal c r exit (steady_reply r).number (steady_reply r).time
-  unchanged l = on (entry_of c) refl
-    where
-      on : (o : Timed SteadyState) → entry_of c ≡ o → AtRefusal c r exit (steady_reply r).number (steady_reply r).time
-      on (stopped m t) e = let h = refusal m t e in record { number = refl; time = refl; maximum = h.maximum; slices = h.slices }
-      on (got s) e = not_zero l (ap (λ (x : SteadyReport). x.number) (q.reply ∙ ap steady_report_of e))
+  unchanged l =
+      by_timed (entry_of c)
+      (λ m t e. let h = refusal m t e in record { number = refl; time = refl; maximum = h.maximum; slices = h.slices })
+      (λ s e. not_zero l (ap (λ (x : SteadyReport). x.number) (q.reply ∙ ap steady_report_of e)))
 
   module _ (f : TimesFit c.window c.events) (p : Passed c) where
     abbrev whole : Timed SteadyState
@@ -96,11 +91,7 @@ module _ (c : Call) (r : P.SteadyReply) (exit : Slices) (q : Contract c r exit) 
 
     -- 0 is the number of an answer
     at_zero : (steady_reply r).number ≡ 0 → (s : SteadyState) × (whole ≡ got s)
-    at_zero e = on whole refl
-      where
-        on : (o : Timed SteadyState) → whole ≡ o → (s : SteadyState) × (whole ≡ got s)
-        on (stopped m t) d = not_zero (positive m (cycle.numbers m t d)) (sym (refusal m t (begins ∙ d)).number ∙ e)
-        on (got s) d = (s, d)
+    at_zero e = by_timed whole (λ m t d. not_zero (positive m (cycle.numbers m t d)) (sym (refusal m t (begins ∙ d)).number ∙ e)) (λ s d. (s, d))
 
     reply_of : (s : SteadyState) → whole ≡ got s → steady_reply r ≡ steady_report_of (got s)
     reply_of s d = q.reply ∙ ap steady_report_of (begins ∙ d)
@@ -133,20 +124,17 @@ module _ (c : Call) (r : P.SteadyReply) (exit : Slices) (q : Contract c r exit) 
         g = cycle.answer a y h s d
 
     yields : ((a : List Float) × YieldsOn c a) ⊎ ((m : ℕ) × (t : Float) × (candidate c ≡ stopped m t) × AtRefusal c r exit m t)
-    yields = on (candidate c) refl
-      where
-        on : (o : Timed (List Float)) → candidate c ≡ o → ((a : List Float) × YieldsOn c a)
-            ⊎ ((m : ℕ) × (t : Float) × (candidate c ≡ stopped m t) × AtRefusal c r exit m t)
-        on (stopped m t) d = inr (m, t, d, refusal m t (begins ∙ cycle.refuses m t d))
-        on (got a) d = inl (a, (cycle.yields a).0 d)
+    yields =
+        by_timed (candidate c) (λ m t d. inr (m, t, d, refusal m t (begins ∙ cycle.refuses m t d))) (λ a d. inl (a, (cycle.yields a).0 d))
 
     above : (a : List Float) (y : YieldsOn c a) (m : ℕ) (t : Float) → ((0 < m) × (((steady_reply r).number ≡ m) × ((steady_reply r).time ≡ t)))
         ↔ RejectsOn c y.folded a m t
-    above a y m t = ((λ h. (cycle.rejects a y m t).0 (on whole refl h.0 h.1.0 h.1.1)), refused)
+    above a y m t = ((λ h. (cycle.rejects a y m t).0 (stops h.0 h.1.0 h.1.1)), refused)
       where
-        on : (o : Timed SteadyState) → whole ≡ o → 0 < m → (steady_reply r).number ≡ m → (steady_reply r).time ≡ t → whole ≡ stopped m t
-        on (stopped k u) d l e f = let h = refusal k u (begins ∙ d) in d ∙ ap₂ stopped (sym h.number ∙ e) (sym h.time ∙ f)
-        on (got s) d l e f = not_zero l (sym e ∙ ap (λ (x : SteadyReport). x.number) (reply_of s d))
+        stops : 0 < m → (steady_reply r).number ≡ m → (steady_reply r).time ≡ t → whole ≡ stopped m t
+        stops l e f =
+            by_timed whole (λ k u d. let h = refusal k u (begins ∙ d) in d ∙ ap₂ stopped (sym h.number ∙ e) (sym h.time ∙ f))
+            (λ s d. not_zero l (sym e ∙ ap (λ (x : SteadyReport). x.number) (reply_of s d)))
 
         refused : RejectsOn c y.folded a m t → (0 < m) × (((steady_reply r).number ≡ m) × ((steady_reply r).time ≡ t))
         refused g =
@@ -155,11 +143,10 @@ module _ (c : Call) (r : P.SteadyReply) (exit : Slices) (q : Contract c r exit) 
             (positive m (cycle.numbers m t d), (h.number, h.time))
 
     numbers : T (one_of (steady_reply r).number (0 ∷ closed_numbers))
-    numbers = on whole refl
-      where
-        on : (o : Timed SteadyState) → whole ≡ o → T (one_of (steady_reply r).number (0 ∷ closed_numbers))
-        on (stopped m t) d = rw (refusal m t (begins ∙ d)).number (or_right (eqb m 0) (one_of m closed_numbers) (cycle.numbers m t d))
-        on (got s) d = rw (ap (λ (x : SteadyReport). x.number) (reply_of s d)) tt
+    numbers =
+        by_timed whole
+        (λ m t d. rw (refusal m t (begins ∙ d)).number (or_right (eqb m 0) (one_of m closed_numbers) (cycle.numbers m t d)))
+        (λ s d. rw (ap (λ (x : SteadyReport). x.number) (reply_of s d)) tt)
 
     replied : Replied c r exit
     replied = record {

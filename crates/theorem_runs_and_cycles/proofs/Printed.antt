@@ -1,7 +1,6 @@
 -- What `rig-steady` prints: `every_printout`, from demand 3's claim about a closed cycle. Assumes nothing.
-use mathlib.Core.Path.{◌≡◌, refl, sym, ap, ◌∙◌, subst}
-use Prim.Native.Nat.{ℕ, zero, suc}
-use native.Mathlib.Omega.{arith}
+use mathlib.Core.Path.{◌≡◌, sym, ap, ◌∙◌, subst}
+use Prim.Native.Nat.{ℕ, zero}
 use mathlib.Core.Bool.{true}
 use mathlib.Core.List.{List, [], ◌∷◌, ◌++◌}
 use mathlib.Core.Logic.{◌⊎◌, inl, inr}
@@ -30,12 +29,8 @@ use Rattle.rig_steady_cycle.proofs.Kept.{Sized, Kept, steady_kept}
 use Rattle.rig_steady_sheet.specs.SteadySheet.{steady_sheet, steady_of_bytes, steady_printout_of_bytes}
 use Rattle.sheet_kernel.proofs.Kernels.{model-sound}
 use Rattle.theorem_runs_and_cycles.proofs.Demand3.{demand_3}
+use Rattle.theorem_runs_and_cycles.proofs.Cases.{not_zero, positive, by_timed}
 use Rattle.theorem_runs_and_cycles.specs.Printed.{candidate, YieldsOn, AcceptsOn, RejectsOn, PrintsAnswer, PrintsRefusal, PrintsCycle, Printed}
-
--- ---- the refusals' numbers are above 0
-above : (m : ℕ) → T (one_of m closed_numbers) → m ≡ 0 → ⊥
-above zero h e = h
-above (suc m) h e = omega arith
 
 refusal : {m : ℕ} {t : Float} {o : Timed SteadyState} → o ≡ stopped m t → PrintsRefusal m t (steady_printout o)
 unfolding steady_text
@@ -60,11 +55,7 @@ module _ (s : Sheet) (k : LinearPk) (made : model_of s.model ≡ done k) where
 
   -- 0 is the number of an answer
   at_zero : (steady_printout whole).number ≡ 0 → (x : SteadyState) × (whole ≡ got x)
-  at_zero e = on whole refl e
-    where
-      on : (o : Timed SteadyState) → whole ≡ o → (steady_printout o).number ≡ 0 → (x : SteadyState) × (whole ≡ got x)
-      on (stopped m t) d z = absurd (above m (facts.numbers m t d) z)
-      on (got x) d z = (x, d)
+  at_zero e = by_timed whole (λ m t d. not_zero (positive m (facts.numbers m t d)) (sym (refusal d).number ∙ e)) (λ x d. (x, d))
 
   answer : (a : List Float) (y : YieldsOn s k a) (h : AcceptsOn s k y.folded a) → PrintsAnswer s k a (last_post [] h.left.rows) (steady_printout whole)
   unfolding steady_text solved_text
@@ -95,26 +86,16 @@ module _ (s : Sheet) (k : LinearPk) (made : model_of s.model ≡ done k) where
       z = subst (Kept n) d kept
 
   rejected : (a : List Float) (y : YieldsOn s k a) → (AcceptsOn s k y.folded a → ⊥) → (m : ℕ) × (t : Float) × RejectsOn s k y.folded a m t
-  rejected a y fails = on whole refl
-    where
-      on : (o : Timed SteadyState) → whole ≡ o → (m : ℕ) × (t : Float) × RejectsOn s k y.folded a m t
-      on (stopped m t) d = (m, t, (facts.rejects a y m t).0 d)
-      on (got x) d = absurd (fails ((facts.accepts a y).0 (x, d)))
+  rejected a y fails = by_timed whole (λ m t d. (m, t, (facts.rejects a y m t).0 d)) (λ x d. absurd (fails ((facts.accepts a y).0 (x, d))))
 
   yields : ((a : List Float) × YieldsOn s k a) ⊎ ((m : ℕ) × (t : Float) × (candidate s k ≡ stopped m t) × PrintsRefusal m t (steady_printout whole))
-  yields = on (candidate s k) refl
-    where
-      on : (o : Timed (List Float)) → candidate s k ≡ o → ((a : List Float) × YieldsOn s k a)
-          ⊎ ((m : ℕ) × (t : Float) × (candidate s k ≡ stopped m t) × PrintsRefusal m t (steady_printout whole))
-      on (stopped m t) d = inr (m, t, d, refusal (facts.refuses m t d))
-      on (got a) d = inl (a, (facts.yields a).0 d)
+  yields =
+      by_timed (candidate s k) (λ m t d. inr (m, t, d, refusal (facts.refuses m t d))) (λ a d. inl (a, (facts.yields a).0 d))
 
   numbers : T (one_of (steady_printout whole).number (0 ∷ closed_numbers))
-  numbers = on whole refl
-    where
-      on : (o : Timed SteadyState) → whole ≡ o → T (one_of (steady_printout o).number (0 ∷ closed_numbers))
-      on (stopped m t) d = or_right (eqb m 0) (one_of m closed_numbers) (facts.numbers m t d)
-      on (got x) d = tt
+  numbers =
+      by_timed whole (λ m t d. rw (refusal d).number (or_right (eqb m 0) (one_of m closed_numbers) (facts.numbers m t d)))
+      (λ x d. rw (ap (λ (o : Timed SteadyState). (steady_report_of o).number) d) tt)
 
   prints_cycle : PrintsCycle s k (steady_printout whole)
   prints_cycle = record {

@@ -1,26 +1,21 @@
 -- Demand 3 of what `simulate` replies and leaves: `every_simulate`, from its contract. Assumes nothing.
 use mathlib.Core.Path.{◌≡◌, refl, sym, ap, ap₂, ◌∙◌, subst}
-use Prim.Native.Nat.{ℕ, zero, ◌*◌, ◌≤◌, ◌<◌, zero-le}
+use Prim.Native.Nat.{ℕ, zero, ◌≤◌, ◌<◌, zero-le}
 use native.Mathlib.Omega.{arith}
-use mathlib.Core.Bool.{Bool, true, false, cond, ◌&&◌}
-use mathlib.Core.List.{List, [], ◌∷◌}
+use mathlib.Core.List.{List, ◌∷◌}
 use mathlib.Core.Option.{Option, some, none}
 use mathlib.Core.Logic.{◌⊎◌, inl, inr}
 use lib.Dec.{T, leb, leb→le, eqb}
 use lib.ListN.{length}
 use lib.Ieee.{Float}
-use Rattle.limits.specs.Limits.{most_events, most_samples}
-use Rattle.binary64.proofs.Sorted.{All}
-use Rattle.binary64.specs.Lists.{amounts_pass, all}
+use Rattle.limits.specs.Limits.{most_events}
 use Rattle.refusal.specs.Result as R
-use Rattle.linear_pk.specs.LinearPk.{sound, volumes_pass, matrix_finite, state_count}
+use Rattle.linear_pk.specs.LinearPk.{sound, state_count}
 use Rattle.linear_pk.specs.declared.kernel.LinearPk.{LinearPk}
 use Rattle.protocol.specs.declared.Event.{Event}
-use Rattle.protocol.specs.declared.Window.{Window}
-use Rattle.protocol.specs.First.{unless, first_of}
-use Rattle.protocol.specs.Prepare.{window_passes, within, events_pass, reckoned, validate, prepare}
+use Rattle.protocol.specs.Prepare.{within}
 use Rattle.protocol.specs.Execute.{State, Outcome, go, stop, run_of}
-use Rattle.protocol.specs.Entry.{Room, room_for, first_refusal, simulate, RunReport, report_of}
+use Rattle.protocol.specs.Entry.{first_refusal, RunReport, report_of}
 use Rattle.protocol.specs.PlainRun.{stop_numbers, one_of, Cycle, Prepared, rows_left, Budgeted, PlainRun}
 use Rattle.protocol.proofs.Conditions.{meets-above}
 use Rattle.protocol.specs.SamplesApart.{SamplesApart}
@@ -36,12 +31,7 @@ use Rattle.theorem_runs_and_cycles.specs.Simulate.{Slices, Call, call_states, re
 use Rattle.theorem_runs_and_cycles.specs.Simulate.{Contract, TimesFit, Passed, run_on, FirstMetOn, AtEnd, AtStop, Replied, Apart}
 use Rattle.theorem_runs_and_cycles.specs.Simulate.{EverySimulate}
 use Rattle.theorem_runs_and_cycles.proofs.Demand3.{demand_3}
-
-pub not_zero : {A : Type 0} {m : ℕ} → 0 < m → m ≡ 0 → A
-not_zero h e = absurd (no h e)
-  where
-    no : {m : ℕ} → 0 < m → m ≡ 0 → ⊥
-    no h e = omega arith
+use Rattle.theorem_runs_and_cycles.proofs.Cases.{not_zero, by_outcome}
 
 -- ---- one call
 module _ (c : Call) where
@@ -89,6 +79,9 @@ module _ (c : Call) where
       reply-at : (o : Outcome) → run_on c ≡ o → run_reply r ≡ report_of (R.done o)
       reply-at o e = q.reply ∙ ap report_of (began p ∙ ap R.done e)
 
+      number-at : (o : Outcome) → run_on c ≡ o → (run_reply r).number ≡ (report_of (R.done o)).number
+      number-at o e = ap (λ (x : RunReport). x.number) (reply-at o e)
+
       slices-at : (o : Outcome) → run_on c ≡ o → AtExit c (R.done o) exit
       slices-at o e = subst (λ (x : R.Result Outcome). AtExit c x exit) (began p ∙ ap R.done e) q.slices
 
@@ -100,11 +93,10 @@ module _ (c : Call) where
       few (stop m t z) h = zero-le
 
       at_zero : (run_reply r).number ≡ 0 → (z : State) × (run_on c ≡ go z)
-      at_zero e = on (run_on c) refl
-        where
-          on : (o : Outcome) → run_on c ≡ o → (z : State) × (run_on c ≡ go z)
-          on (go z) d = (z, d)
-          on (stop m t z) d = not_zero (meets-above ((run.exact m t).0 (z, d)).meets) (sym (ap (λ (x : RunReport). x.number) (reply-at (stop m t z) d)) ∙ e)
+      at_zero e =
+          by_outcome (run_on c)
+          (λ m t z d. not_zero (meets-above ((run.exact m t).0 (z, d)).meets) (sym (number-at (stop m t z) d) ∙ e))
+          (λ z d. (z, d))
 
       ends : (z : State) → run_on c ≡ go z → AtEnd c r exit z
       ends z e =
@@ -118,23 +110,20 @@ module _ (c : Call) where
           }
 
       met : (m : ℕ) (t : Float) → 0 < m → (run_reply r).number ≡ m → (run_reply r).time ≡ t → FirstMetOn c m t
-      met m t l a b = on (run_on c) refl
-        where
-          on : (o : Outcome) → run_on c ≡ o → FirstMetOn c m t
-          on (go z) d = not_zero l (sym a ∙ ap (λ (x : RunReport). x.number) (reply-at (go z) d))
-          on (stop j u z) d =
-              let y = reply-at (stop j u z) d in
-              (run.exact m t).0 (
-                z,
-                d ∙ ap₂ (λ (i : ℕ) (v : Float). stop i v z) (sym (ap (λ (x : RunReport). x.number) y) ∙ a)
-                    (sym (ap (λ (x : RunReport). x.time) y) ∙ b),
-              )
+      met m t l a b =
+          by_outcome (run_on c)
+          (λ j u z d.
+          (run.exact m t).0 (
+            z,
+            d ∙ ap₂ (λ (i : ℕ) (v : Float). stop i v z) (sym (number-at (stop j u z) d) ∙ a)
+                (sym (ap (λ (x : RunReport). x.time) (reply-at (stop j u z) d)) ∙ b),
+          ))
+          (λ z d. not_zero l (sym a ∙ number-at (go z) d))
 
       numbered : (m : ℕ) (t : Float) → FirstMetOn c m t → (0 < m) × (((run_reply r).number ≡ m) × ((run_reply r).time ≡ t))
       numbered m t g =
           let h = (run.exact m t).1 g in
-          let y = reply-at (stop m t h.0) h.1 in
-          (meets-above g.meets, (ap (λ (x : RunReport). x.number) y, ap (λ (x : RunReport). x.time) y))
+          (meets-above g.meets, (number-at (stop m t h.0) h.1, ap (λ (x : RunReport). x.time) (reply-at (stop m t h.0) h.1)))
 
       stops : (m : ℕ) (t : Float) (g : FirstMetOn c m t) → AtStop c r exit m t g
       stops m t g =
@@ -150,14 +139,12 @@ module _ (c : Call) where
           }
 
       budgeted : Budgeted c.window.propagations (run_reply r).number (run_reply r).advances
-      budgeted = on (run_on c) refl
+      budgeted =
+          by_outcome (run_on c) (λ m t z d. rw (reply-at (stop m t z) d) (run.budgeted m t z d))
+          (λ z d. rw (reply-at (go z) d) (record { within = λ _. run.ended z d; beyond = λ q. absurd (not_thirty q) }))
         where
           not_thirty : ◌≡◌ {A = ℕ} 0 30 → ⊥
           not_thirty q = omega arith
-
-          on : (o : Outcome) → run_on c ≡ o → Budgeted c.window.propagations (run_reply r).number (run_reply r).advances
-          on (go z) d = rw (reply-at (go z) d) (record { within = λ _. run.ended z d; beyond = λ q. absurd (not_thirty q) })
-          on (stop m t z) d = rw (reply-at (stop m t z) d) (run.budgeted m t z d)
 
       cycle : Cycle c.window → T (one_of (run_reply r).number (0 ∷ stop_numbers))
       cycle k = on (run.cycle k)
@@ -165,13 +152,13 @@ module _ (c : Call) where
           on : ((z : State) × (run_on c ≡ go z)) ⊎ ((m : ℕ) × (t : Float) × (z : State) × (run_on c ≡ stop m t z)
               × T (one_of m stop_numbers))
               → T (one_of (run_reply r).number (0 ∷ stop_numbers))
-          on (inl (z, d)) = rw (ap (λ (x : RunReport). x.number) (reply-at (go z) d)) tt
-          on (inr (m, t, z, d, h)) = rw (ap (λ (x : RunReport). x.number) (reply-at (stop m t z) d)) (or_right (eqb m 0) _ h)
+          on (inl (z, d)) = rw (number-at (go z) d) tt
+          on (inr (m, t, z, d, h)) = rw (number-at (stop m t z) d) (or_right (eqb m 0) _ h)
 
       replied : Replied c r exit
       replied = record {
         within = rw (q.reply, began p) (few (run_on c) run.within);
-        zero = (at_zero, λ h. ap (λ (x : RunReport). x.number) (reply-at (go h.0) h.1));
+        zero = (at_zero, λ h. number-at (go h.0) h.1);
         ends = ends;
         above = λ m t. ((λ h. met m t h.0 h.1.0 h.1.1), numbered m t);
         stops = stops;

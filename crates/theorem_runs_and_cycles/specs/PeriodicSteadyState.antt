@@ -10,7 +10,7 @@ use Rattle.protocol.specs.declared.Window.{Window}
 use Rattle.protocol.specs.PlainRun.{one_of, Reached}
 use Rattle.simulation.specs.KernelRun.{propagator_of}
 use Rattle.cycle.specs.declared.SteadyStateTolerance.{SteadyStateTolerance}
-use Rattle.cycle.specs.Closed.{Timed, stopped, divided, last_post, candidate_of, residuals_of, SteadyState, steady_report_of, answer_at_exit}
+use Rattle.cycle.specs.Closed.{Timed, stopped, divided, last_post, candidate_of, residuals_of, SteadyState}
 use Rattle.cycle.specs.ClosedCycle.{TimesFit, closed_numbers, Yields, Accepts, Rejects, maximum_to}
 use Rattle.periodic_acceptance.specs.Replies.{SteadyAnswer}
 use Rattle.periodic_acceptance.specs.Entry.{steady_room, steady_entry, steady_reply}

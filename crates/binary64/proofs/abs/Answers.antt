@@ -13,8 +13,8 @@ use Rattle.binary64.proofs.Patterns.{bits_no_nan}
 use Rattle.binary64.proofs.Magnitudes.{magnitude64, magnitude_good}
 use Rattle.binary64.proofs.abs.Goals as goal
 
-good : (c : goal.Else-x) → Good binary64 c.args.x
-good c = (search rules, is_real c.args.x c.if-x.false)
+good : (c : goal.Else-is_nan) → Good binary64 c.args.x
+good c = (search rules, is_real c.args.x (sym c.is_nan.ensures.value ∙ c.if-is_nan.false))
 
 pub float_from_bits-result : goal.float_from_bits-result
 float_from_bits-result c = let x = c.args.x in
@@ -24,9 +24,9 @@ pub returns : goal.returns
 returns c = let x = c.args.x in
     ap (of_bits binary64) (magnitude64 x (good c)) ∙ of_bits-to_bits binary64 (magnitude x) (magnitude_good binary64 x (good c)).0
 
-pub returns-then-x : goal.returns-then-x
+pub returns-then-is_nan : goal.returns-then-is_nan
 unfolding magnitude
-returns-then-x c = rw (is_nan_lem c.args.x c.if-x.true)
+returns-then-is_nan c = rw (is_nan_lem c.args.x (sym c.is_nan.ensures.value ∙ c.if-is_nan.true))
 
 pub float_to_bits-result : goal.float_to_bits-result
 unfolding magnitude

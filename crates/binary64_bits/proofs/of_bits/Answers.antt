@@ -1,6 +1,6 @@
 -- `binary64_bits::of_bits` meets its contract: 0 / 0 stands for a NaN's pattern.
 use mathlib.Core.Path.{◌≡◌, refl, sym, subst, ◌∙◌}
-use mathlib.Core.Bool.{Bool, true, not}
+use mathlib.Core.Bool.{true}
 use lib.Dec.{T}
 use lib.Ieee.{Float, nan, inf, fin, binary64, is_nan, of_bits, div}
 use lib.Ieee.Bits.{nan_bits_is}

@@ -7,11 +7,11 @@ use Rattle.doses.proofs.apply_events.Goals as goal
 
 pub returns-in_err-p : goal.returns-in_err-p
 returns-in_err-p c =
-    let g = c.args in
+    let g = c.args.boundary.now in
     let e = err_from_is_err_and c.from_residual.result c.from_residual.ensures.1 in
-    rw (e.1, e.2) (both_stops g.n g.t g.start (resets g.t g.events.now) (boluses g.t g.events.now) c.in_err-p.ensures)
+    rw (e.1, e.2) (both_stops g.at.n g.at.t c.args.start (resets g.at.t g.events.now) (boluses g.at.t g.events.now) c.in_err-p.ensures)
 
 pub returns : goal.returns
 returns c =
-    let g = c.args in
-    both_done g.n g.t g.start (resets g.t g.events.now) (boluses g.t g.events.now) c.in_ok-p.ensures (c.apply_where.ensures (is_bolus g.t) (λ e b s. search rules))
+    let g = c.args.boundary.now in
+    both_done g.at.n g.at.t c.args.start (resets g.at.t g.events.now) (boluses g.at.t g.events.now) c.in_ok-p.ensures (c.apply_where.ensures (is_bolus g.at.t) (λ e b s. search rules))

@@ -9,7 +9,7 @@ use Rattle.doses.proofs.apply_resets.Goals as goal
 
 pub returns-then-not-has_reset : goal.returns-then-not-has_reset
 returns-then-not-has_reset c =
-    rw (no_resets c.args.t c.args.events.now (sym c.has_reset.ensures ∙ c.if-not-has_reset.true)) (record { ran = λ a w. ran-nothing c.args.start w })
+    rw (no_resets c.args.boundary.now.at.t c.args.boundary.now.events.now (sym c.has_reset.ensures ∙ c.if-not-has_reset.true)) (record { ran = λ a w. ran-nothing c.args.start w })
 
 pub returns : goal.returns
 returns c =

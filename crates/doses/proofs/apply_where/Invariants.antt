@@ -10,4 +10,4 @@ use Rattle.doses.proofs.apply_where.Given as goal
 abbrev pub invariant-loop-event : goal.invariant-loop-event
 invariant-loop-event g l =
     (passes : Event → Bool) → ((e : Event) (b : Bool) → FnReturnsAt g.F.Fn l.test e b → b ≡ passes e)
-    → Leads l.n l.initial.p (passing l.t passes l.events) l.p (passing l.t passes (drop l.event-index l.events))
+    → Leads l.at.n l.initial.p (passing l.at.t passes l.events) l.p (passing l.at.t passes (drop l.event-index l.events))

@@ -3,9 +3,8 @@ use mathlib.Core.List.{[]}
 use Prim.Native.Nat.{◌<◌}
 use native.Mathlib.Numerals.{add-one}
 use native.Mathlib.Omega.{arith}
-use lib.ListN.{length, take, get_or}
+use lib.ListN.{get_or}
 use lib.Ieee.{of_bits}
-use Rattle.std.proofs.Common.{length-take-le}
 use Rattle.matrix.specs.Exponential.{norm_to, row_sum}
 use Rattle.matrix.proofs.Fronts.{front-item}
 use Rattle.exponential_norm.proofs.norm.Goals as goal
@@ -20,10 +19,3 @@ loop-row-preserved g c =
     let i = c.loop-row.row-index in
     let item : (i < c.args.m) × (c.row-item.result ≡ get_or c.args.a.now i []) = front-item c.args.m c.args.a.now i [] (omega arith) c.loop-row-test.true c.row-item.is in
     rw (add-one, c.max-largest.ensures, c.row_sum.ensures, c.loop-row.invariant, ← item.1)
-
-pub returns : goal.returns
-unfolding of_bits
-returns g c =
-    let long : length (take c.args.m c.args.a.now) ≡ c.args.m = length-take-le c.args.m c.args.a.now (omega arith) in
-    let all : c.loop-row.row-index ≡ c.args.m = omega arith in
-    rw all at c.loop-row.invariant

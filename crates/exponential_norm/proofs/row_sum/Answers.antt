@@ -2,7 +2,6 @@ use mathlib.Core.Path.{refl}
 use Prim.Native.Nat.{◌<◌}
 use native.Mathlib.Numerals.{add-one}
 use native.Mathlib.Omega.{arith}
-use native.Mathlib.Nat.{le_antisymm}
 use lib.Seq.{get_or-take}
 use lib.Ieee.{of_bits, neg, nan}
 use Rattle.std.proofs.Common.{length-take-le}
@@ -18,9 +17,3 @@ unfolding neg of_bits sum_to
 loop-x-preserved g c =
     let below : c.loop-x.x-index < c.args.m = rw (length-take-le c.args.m c.args.row.now (omega arith)) at c.loop-x-test.true in
     rw (add-one, c.abs-sum.ensures, c.loop-x.invariant, get_or-take c.args.m c.args.row.now c.loop-x.x-index nan below)
-
-pub returns : goal.returns
-unfolding neg of_bits
-returns g c =
-    let long = length-take-le c.args.m c.args.row.now (omega arith) in
-    rw (← long, le_antisymm c.loop-x-test.false c.loop-x.auto.x-index-end) c.loop-x.invariant

@@ -9,9 +9,9 @@ pub returns-then-not-cycle_passes : goal.returns-then-not-cycle_passes
 unfolding fold
 returns-then-not-cycle_passes c = rw (← c.cycle_passes.ensures, c.if-not-cycle_passes.true)
 
-pub returns-then-events-window : goal.returns-then-events-window
+pub returns-then-given : goal.returns-then-given
 unfolding fold count_passes
-returns-then-events-window c = rw (← c.cycle_passes.ensures, c.if-not-cycle_passes.false, lt-leb _ _ c.if-events-window.true)
+returns-then-given c = rw (← c.cycle_passes.ensures, c.if-not-cycle_passes.false, lt-leb _ _ c.if-given.true)
 
 pub returns-in_err-with_events : goal.returns-in_err-with_events
 unfolding fold count_passes
@@ -22,19 +22,20 @@ returns-in_err-with_events c =
       p.2,
       ← c.cycle_passes.ensures,
       c.if-not-cycle_passes.false,
-      le-leb _ _ c.if-events-window.false,
+      le-leb _ _ c.if-given.false,
       ← c.in_err-with_events.ensures,
     )
 
 pub returns : goal.returns
 unfolding fold count_passes
 returns c =
-    let g = c.args in
+    let n = c.args.n in
+    let g = c.args.given.now in
     let es = c.with_events.new.list.items in
-    let v = validated g.n g.window g.samples.now es c.validate.result es (rw c.deref.ensures.0 at c.validate.ensures) in
+    let v = validated n g.window g.samples.now es c.validate.result es (rw c.deref.ensures.0 at c.validate.ensures) in
     rw (
       ← c.cycle_passes.ensures,
       c.if-not-cycle_passes.false,
-      le-leb _ _ c.if-events-window.false,
+      le-leb _ _ c.if-given.false,
       ← c.in_ok-with_events.ensures,
     ) v

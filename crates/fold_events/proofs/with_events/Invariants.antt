@@ -9,4 +9,5 @@ use Rattle.fold_events.proofs.with_events.Given as goal
 abbrev pub invariant-loop-event : goal.invariant-loop-event
 invariant-loop-event l =
     (length l.list.items ≤ 3 * l.event-index)
-    × (with_events l.fn.window l.events (drop l.event-index l.events) l.list.items ≡ with_events l.fn.window l.events l.events [])
+    × (with_events l.given.window l.event-items (drop l.event-index l.event-items) l.list.items
+    ≡ with_events l.given.window l.event-items l.event-items [])

@@ -1,5 +1,4 @@
 use mathlib.Core.Path.{refl}
-use native.Mathlib.Nat.{le_antisymm}
 use native.Mathlib.Numerals.{add-one}
 use Rattle.linear_pk_mammillary.specs.Rates.{diagonal_to}
 use Rattle.linear_pk_mammillary.proofs.diagonal.Goals as goal

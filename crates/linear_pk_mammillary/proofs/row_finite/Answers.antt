@@ -7,7 +7,6 @@ use lib.Ieee.Scale.{finite}
 use Rattle.std.proofs.lemmas.Iterator.{YieldsList-from_range}
 use Rattle.std.proofs.lemmas.Iterator.Search.{all_from_yields_List}
 use Rattle.linear_pk_propagator.specs.Propagator.{entry}
-use Rattle.matrix.specs.Matrix.{all_to}
 use Rattle.matrix.proofs.Fronts.{all_range}
 use Rattle.linear_pk_mammillary.proofs.row_finite.Goals as goal
 

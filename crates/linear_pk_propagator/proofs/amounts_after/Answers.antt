@@ -4,6 +4,7 @@ use Prim.Native.Nat.{ℕ}
 use borrow.Author.Rules.{rules}
 use borrow.Author.Tests.{lt-ltb}
 use lib.Dec.{ltb}
+use lib.ListN.{length}
 use lib.Ieee.{Float}
 use Rattle.limits.specs.Limits.{states}
 use Rattle.binary64.specs.Doubles.{plus_zero}
@@ -15,6 +16,7 @@ use Rattle.linear_pk_propagator.proofs.amounts_after.Goals as goal
 pub returns : goal.returns
 returns c =
     let s = c.args in
-    let f : ℕ → Float = λ i. cond (ltb i s.n) (amount_to s.p.now s.n s.amounts.now s.rates.now s.duration i s.n) plus_zero in
-    tabulate-front f _ states s.n c.requires.0 (made states (λ i y q l e. search rules) c.from_fn.ensures.items)
-    (λ i l. rw (lt-ltb i s.n l))
+    let n = length s.amounts.now in
+    let f : ℕ → Float = λ i. cond (ltb i n) (amount_to s.p.now n s.amounts.now s.rates.now s.duration i n) plus_zero in
+    tabulate-front f _ states n c.requires.0 (made states (λ i y q l e. search rules) c.from_fn.ensures.items)
+    (λ i l. rw (lt-ltb i n l))

@@ -65,7 +65,7 @@ returns c =
       le-leb (length g.samples.now) most_samples c.if-samples-gt-SAMPLES.false,
     ))
     c.in_ok-check.ensures)
-    (rw c.state_count.ensures.0 at c.closed.ensures) in record {
+    c.closed.ensures in record {
       result_value = x.reply;
       amounts_after = x.amounts;
       residual_after = x.residuals;

@@ -7,6 +7,7 @@ use Rattle.limits.specs.Limits.{states}
 use Rattle.binary64.specs.Doubles.{plus_zero}
 use Rattle.simulation.specs.KernelRun.{propagator_of}
 use Rattle.cycle.specs.Closed.{untimed}
+use Rattle.periodic_runs.proofs.ZeroedRuns.{zeroed_runs}
 use Rattle.periodic_candidate.proofs.Chain.{solution-stops, columns-stop, solution-solves}
 use Rattle.periodic_candidate.proofs.solution.Goals as goal
 
@@ -18,6 +19,11 @@ returns-in_err-offset c =
     rw (p.1, p.2)
     (solution-stops (propagator_of s.kernel) s.n s.window s.events.now
     (rw (take-replicate s.n states plus_zero s.runs.states) at c.in_err-offset.ensures))
+
+pub columns-requires : goal.columns-requires
+columns-requires c =
+    let s = c.args.cycle.now in
+    zeroed_runs s.kernel s.n s.window s.events.now s.runs
 
 pub returns-in_err-columns : goal.returns-in_err-columns
 unfolding of_bits

@@ -36,11 +36,3 @@ returns-in_err-maximum c =
     (rw (← z.2 nan, ← z.3 nan) c.judged.ensures)
     (omega (arith, z.0, length-take-le g.n g.start (omega arith)))
     (rw c.in_err-maximum.was))
-
-pub returns : goal.returns
-returns c =
-    let g = c.args in
-    let z = zip_end (take g.n g.start) (take g.n g.end) c.loop-from.yielded c.into_iter-from-iterator.result c.loop-from.from-iterator c.next.new.self c.next.result
-    (search rules) (search rules) c.loop-from.yielded_by c.in-None.is (search rules) in
-    let e : length c.loop-from.yielded ≡ g.n = omega (arith, z, length-take-le g.n g.start (omega arith), length-take-le g.n g.end (omega arith)) in
-    rw e at (sym c.loop-from.invariant)

@@ -16,21 +16,21 @@ loop-side-init c = refl
 
 pub overflow_add-sum-in-loop-side-2 : goal.overflow_add-sum-in-loop-side-2
 overflow_add-sum-in-loop-side-2 c =
-    let g = c.args.rows.now in
+    let g = c.args in
     let l = c.loop-side in
     omega (
       arith,
       c.side_length.ensures,
       side-most (get_or (take g.rows g.sides.now) l.side-index 0),
-      length-take-le g.rows g.sides.now g.held.enough_sides,
+      length-take-le g.rows g.sides.now c.requires.0,
       l.invariant,
-      rows-most g.n g.sides.now l.side-index c.requires.0,
+      rows-most g.n g.sides.now l.side-index c.requires.1,
     )
 
 pub loop-side-preserved : goal.loop-side-preserved
 unfolding rows_length
 loop-side-preserved c =
-    let g = c.args.rows.now in
+    let g = c.args in
     let l = c.loop-side in
-    let within : l.side-index < g.rows = omega (arith, c.loop-side-test.true, length-take-le g.rows g.sides.now g.held.enough_sides) in
+    let within : l.side-index < g.rows = omega (arith, c.loop-side-test.true, length-take-le g.rows g.sides.now c.requires.0) in
     rw (add-one, c.side_length.ensures, get_or-take g.rows g.sides.now l.side-index 0 within, l.invariant)

@@ -4,4 +4,4 @@ use Rattle.printout_rows.specs.Rows.{rows_length}
 use Rattle.printout_lines.proofs.lines_length.Given as goal
 
 abbrev pub invariant-loop-side : goal.invariant-loop-side
-invariant-loop-side l = l.sum ≡ rows_length l.rows.n l.side-index l.rows.sides.now
+invariant-loop-side l = l.sum ≡ rows_length l.n l.side-index l.sides

@@ -6,5 +6,5 @@ use Rattle.printout_lines.proofs.put_refused.Goals as goal
 pub returns : goal.returns
 unfolding refused_text
 returns c =
-    let first = writes_both c.put_text.ensures (rw c.number.ensures at c.put_decimal.ensures) in
+    let first = writes_both c.put_text.ensures c.put_decimal.ensures in
     writes_both (writes_both (writes_both first c.put_text-2.ensures) c.put_bits.ensures) c.put_text-3.ensures

@@ -13,7 +13,3 @@ one_nan (fin s m x) e = absurd (cc)
 
 pub returns-then-is_nan : goal.returns-then-is_nan
 returns-then-is_nan c = one_nan c.args.x (sym c.is_nan.ensures.value ∙ c.if-is_nan.true)
-
-pub returns-else-is_nan : goal.returns-else-is_nan
-unfolding bits_of
-returns-else-is_nan c = refl

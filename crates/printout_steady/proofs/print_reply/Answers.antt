@@ -6,7 +6,7 @@ use Rattle.printout_steady.proofs.print_reply.Goals as goal
 
 pub returns-in-Err : goal.returns-in-Err
 returns-in-Err c =
-    rw c.in-Err.is (prints_same (refused-printout c.in-Err.stop.refusal c.in-Err.stop.time _ c.args.n c.args.amounts.now c.args.residual.now) c.print_refused.ensures)
+    rw c.in-Err.is (prints_same (refused-printout c.in-Err.stop.refusal c.in-Err.stop.time _ c.args.solved.now.n c.args.solved.now.amounts.now c.args.solved.now.residual.now) c.print_refused.ensures)
 
 pub returns-in-Ok : goal.returns-in-Ok
 unfolding steady_text

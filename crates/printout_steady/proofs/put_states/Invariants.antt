@@ -5,4 +5,4 @@ use Rattle.printout_steady.specs.SteadyPrintout.{state_lines}
 use Rattle.printout_steady.proofs.put_states.Given as goal
 
 abbrev pub invariant-loop-amount : goal.invariant-loop-amount
-invariant-loop-amount l = Writes (state_lines (take (length l.yielded) l.amounts) (take (length l.yielded) l.residual)) l.initial.w l.w
+invariant-loop-amount l = Writes (state_lines (take (length l.yielded) (take l.solved.n l.solved.amounts.now)) (take (length l.yielded) (take l.solved.n l.solved.residual.now))) l.initial.w l.w

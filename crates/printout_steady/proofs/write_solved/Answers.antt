@@ -3,11 +3,13 @@ use native.Mathlib.Omega.{arith}
 use borrow.Author.Rules.{rules}
 use Rattle.printout_numbers.proofs.Writing.{writes_both}
 use Rattle.printout_steady.specs.SteadyPrintout.{solved_text, max_line}
-use Rattle.printout_steady.proofs.Lines.{lines_length_lem}
+use Rattle.printout_steady.proofs.Lines.{front_lines}
 use Rattle.printout_steady.proofs.write_solved.Goals as goal
 
 pub put_named-requires : goal.put_named-requires
-put_named-requires c = omega (arith, lines_length_lem c.args.amounts.now c.args.residual.now c.requires.0)
+put_named-requires c =
+    let s = c.args.solved.now in
+    omega (arith, front_lines s.n s.amounts.now s.residual.now s.held s.told)
 
 pub returns : goal.returns
 unfolding solved_text max_line

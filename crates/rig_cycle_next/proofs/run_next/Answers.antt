@@ -53,8 +53,8 @@ simulate_cycle-requires c =
       c.requires.3,
     )
 
-pub returns : goal.returns
-returns c =
+pub returns-clause-end : goal.returns-clause-end
+returns-clause-end c =
     let g = c.args in
     let s = g.sheet.now in
     let b = s.bodies in
@@ -69,7 +69,7 @@ returns c =
     let a : SteadyState = record { amounts = g.amounts.now; residuals = g.residual.now; maximum = c.requires.0.maximum } in
     let v = c.as_slice.ensures.value ∙ c.events_of-list.ensures in
     let p = rw c.unwrap.ensures at c.normalize_periodic_cycle.ensures.folded in
-    let y = c.simulate_cycle.ensures in (
+    let y = c.simulate_cycle.ensures.end in (
       y.0,
       run_ends s.kernel ws ss es s.sound few a c.requires.0.solved c.doubles.ensures v
           c.window_of-span.ensures m l p (rw c.as_slice-2.ensures.value at y.1),

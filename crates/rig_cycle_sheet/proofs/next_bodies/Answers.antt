@@ -21,7 +21,7 @@ next_cells-requires c =
     let n = c.state_count-n.ensures in (
       length-take-le _ _ n.1 ∙ n.0,
       length-take-le _ _ n.1 ∙ n.0,
-      omega (arith, c.time_cells-times.ensures),
-      omega (arith, c.side_cells-sides.ensures),
-      omega (arith, c.value_cells-values.ensures),
+      omega (arith, c.cells-times.ensures),
+      omega (arith, c.cells-sides.ensures),
+      omega (arith, c.cells-values.ensures),
     )

@@ -34,7 +34,7 @@ pub slice_bounds-run_cells-end-3 : goal.slice_bounds-run_cells-end-3
 slice_bounds-run_cells-end-3 c = sym (length-take-le _ _ (omega (arith, c.args.bodies.now.readable.samples, c.args.bodies.now.readable.events, c.cells-times.ensures)))
 
 pub slice_bounds-run_cells-end-4 : goal.slice_bounds-run_cells-end-4
-slice_bounds-run_cells-end-4 c = sym (length-take-le _ _ (omega (arith, c.args.bodies.now.readable.samples, c.args.bodies.now.readable.events, c.side_cells-sides.ensures)))
+slice_bounds-run_cells-end-4 c = sym (length-take-le _ _ (omega (arith, c.args.bodies.now.readable.samples, c.args.bodies.now.readable.events, c.cells-sides.ensures)))
 
 pub slice_bounds-values-end : goal.slice_bounds-values-end
 slice_bounds-values-end c =
@@ -64,6 +64,6 @@ run_cells-requires c =
       length-take-le _ _ (omega (arith, known_five (length c.args.bodies.now.amounts.now / 8), c.known-first.ensures)) ∙ c.known-first.ensures,
       length-take-le _ _ (omega (arith, h.samples, c.cells-readings.ensures)),
       length-take-le _ _ (omega (arith, few, c.cells-times.ensures)) ∙ same,
-      length-take-le _ _ (omega (arith, few, c.side_cells-sides.ensures)) ∙ same,
+      length-take-le _ _ (omega (arith, few, c.cells-sides.ensures)) ∙ same,
       length-take-le _ _ (omega (arith, cells-most rows n.result few n.ensures.1, c.cells-values.ensures)) ∙ ap₂ ◌*◌ same n.ensures.0,
     )

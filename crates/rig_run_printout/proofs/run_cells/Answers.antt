@@ -73,5 +73,5 @@ returns-in-Ok c =
     let es = words_of b.events.now in
     prints_same (reached-printout g.kernel (words_of b.window.now) (words_of b.amounts.now) (words_of b.samples.now) es
     (rw c.in-Ok.is at run.result_value) g.times.now g.sides.now g.values.now
-    refl c.state_count.ensures.0 c.summed_doses.ensures run.times_after run.sides_after run.values_after)
+    refl c.state_count.ensures.0 c.ordered.ensures run.times_after run.sides_after run.values_after)
     c.print_run.ensures

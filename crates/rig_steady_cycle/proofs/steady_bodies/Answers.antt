@@ -1,10 +1,6 @@
 -- `rig_steady_cycle::steady_bodies` meets its contract.
 use mathlib.Core.Path.{sym, ◌∙◌}
-use lib.ListN.{replicate}
-use lib.Ieee.{binary64, of_bits}
 use lib.Seq.{length-take-le}
-use native.Mathlib.Omega.{arith}
-use Rattle.limits.specs.Limits.{states}
 use Rattle.linear_pk.specs.LinearPk.{state_count}
 use Rattle.sheet.specs.Sheet.{words_of}
 use Rattle.printout.proofs.Replies.{prints_same}
@@ -31,11 +27,7 @@ solve_bodies-reply-requires c =
     (length-take-le _ _ n.1 ∙ n.0, length-take-le _ _ n.1 ∙ n.0)
 
 pub print_reply-requires : goal.print_reply-requires
-print_reply-requires c =
-    let n = c.state_count-n in
-    let l = length-take-le n.result (replicate states (of_bits binary64 0)) n.ensures.1 in
-    let a = c.solve_bodies-reply.auto in
-    (omega (arith, l, a.amounts), omega (arith, l, a.residual), n.ensures.1)
+print_reply-requires c = c.state_count-n.ensures.1
 
 pub returns : goal.returns
 returns c =

@@ -1,10 +1,9 @@
 -- `rows_interval::on_interval` meets its contract.
 use mathlib.Core.Path.{sym, ◌∙◌}
-use lib.ListN.{take}
 use lib.Ieee.{of_bits}
 use Rattle.std.proofs.lemmas.Result.{err_from_is_err_and}
 use Rattle.rows.specs.Lent.{cells_of}
-use Rattle.rows.specs.Standing.{kernel_advance}
+use Rattle.rows.specs.Legs.{moves, rates_of}
 use Rattle.rows_interval.proofs.Interval.{interval-refused, interval_fits, interval-stops, interval-few, interval_arrives}
 use Rattle.rows_interval.proofs.on_interval.Goals as goal
 
@@ -12,14 +11,14 @@ pub returns-then-not-all_finite-clause-ran : goal.returns-then-not-all_finite-cl
 unfolding of_bits
 returns-then-not-all_finite-clause-ran c =
     let g = c.args in
-    rw c.stopped_by.ensures (interval-refused (kernel_advance g.kernel g.n) g.n g.start g.t (take g.n g.rates) g.u
+    rw c.stopped_by.ensures (interval-refused (moves g.leg.now) g.leg.now.n g.start g.leg.now.t (rates_of g.leg.now) g.u
     g.samples.now (cells_of g.rows.now) (sym c.all_finite.ensures
     ∙ c.if-not-all_finite.true))
 
 pub read_all-requires : goal.read_all-requires
 read_all-requires c =
     let g = c.args in
-    interval_fits (kernel_advance g.kernel g.n) g.n g.start g.t (take g.n g.rates) g.u g.samples.now
+    interval_fits (moves g.leg.now) g.leg.now.n g.start g.leg.now.t (rates_of g.leg.now) g.u g.samples.now
     (cells_of g.rows.now) (sym c.all_finite.ensures
     ∙ c.if-not-all_finite.false) c.requires
 
@@ -27,22 +26,20 @@ pub returns-in_err-p-clause-ran : goal.returns-in_err-p-clause-ran
 returns-in_err-p-clause-ran c =
     let g = c.args in
     let e = err_from_is_err_and c.from_residual.result c.from_residual.ensures.1 in
-    rw (e.1, e.2) (interval-stops (kernel_advance g.kernel g.n) g.n g.start g.t (take g.n g.rates) g.u g.samples.now
+    rw (e.1, e.2) (interval-stops (moves g.leg.now) g.leg.now.n g.start g.leg.now.t (rates_of g.leg.now) g.u g.samples.now
     (cells_of g.rows.now) (sym c.all_finite.ensures
     ∙ c.if-not-all_finite.false) c.in_err-p.ensures.ran)
 
 pub arrive-requires : goal.arrive-requires
 arrive-requires c =
-    let g = c.args in (
-      c.requires.states,
-      interval-few (kernel_advance g.kernel g.n) g.n g.start g.t (take g.n g.rates) g.u
-          g.samples.now (cells_of g.rows.now) (sym c.all_finite.ensures
-          ∙ c.if-not-all_finite.false) c.in_ok-p.ensures.ran c.requires,
-    )
+    let g = c.args in
+    interval-few (moves g.leg.now) g.leg.now.n g.start g.leg.now.t (rates_of g.leg.now) g.u
+    g.samples.now (cells_of g.rows.now) (sym c.all_finite.ensures
+    ∙ c.if-not-all_finite.false) c.in_ok-p.ensures.ran c.requires
 
 pub returns-clause-ran : goal.returns-clause-ran
 returns-clause-ran c =
     let g = c.args in
-    interval_arrives (kernel_advance g.kernel g.n) g.n g.start g.t (take g.n g.rates) g.u g.samples.now
+    interval_arrives (moves g.leg.now) g.leg.now.n g.start g.leg.now.t (rates_of g.leg.now) g.u g.samples.now
     (cells_of g.rows.now) (sym c.all_finite.ensures
     ∙ c.if-not-all_finite.false) c.in_ok-p.ensures.ran (c.arrive.ensures _)

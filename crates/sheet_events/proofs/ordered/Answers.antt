@@ -1,18 +1,28 @@
 -- `sheet_events::ordered` meets its contract.
-use native.Mathlib.Numerals.{add-one}
-use lib.Seq.{drop-cons}
-use lib.Ieee.{nan}
-use Rattle.std.proofs.lemmas.List.{drop_all}
-use Rattle.protocol.specs.declared.Event.TheVariants.{Bolus}
-use Rattle.sheet_events.specs.OrderedDoses.{ordered_from}
+use mathlib.Core.Path.{refl, ap, ◌∙◌}
+use native.Mathlib.Omega.{arith}
+use native.Mathlib.Nat.{le_antisymm}
+use lib.Ieee.{of_bits}
+use Rattle.binary64.specs.Doubles.{plus_zero}
+use Rattle.matrix.specs.Matrix.{tabulate, tabulate_from}
+use Rattle.events_layout.specs.Layout.{event_of, events_of}
+use Rattle.events_layout.proofs.Laws.{tabulate_more}
+use Rattle.sheet_events.specs.OrderedDoses.{ordered_from, ordered}
+use Rattle.sheet_events.proofs.Sums.{ordered_more}
 use Rattle.sheet_events.proofs.ordered.Goals as goal
 
-pub loop-event-preserved : goal.loop-event-preserved
-unfolding ordered_from
-loop-event-preserved c =
-    let l = c.loop-event in
-    rw (c.plus_dose-sum.ensures, add-one) (rw (drop-cons c.args.events.now l.event-index (Bolus nan 0 nan) c.loop-event-test.true) at l.invariant)
+pub loop-i-init : goal.loop-i-init
+unfolding tabulate tabulate_from ordered_from of_bits
+loop-i-init g c = refl
+
+pub loop-i-preserved : goal.loop-i-preserved
+loop-i-preserved g c =
+    let l = c.loop-i in
+    let f = event_of (g.W.Words.words c.args.words) in
+    c.plus_dose-sum.ensures ∙ rw (l.invariant, c.event_of.ensures, tabulate_more f l.i, ordered_more plus_zero (tabulate l.i f) (f l.i))
 
 pub returns : goal.returns
-unfolding ordered_from
-returns c = rw (drop_all c.loop-event.event-index c.args.events.now c.loop-event-test.false) at c.loop-event.invariant
+unfolding events_of
+returns g c =
+    let ws = g.W.Words.words c.args.words in
+    c.loop-i.invariant ∙ ap (λ j. ordered (tabulate j (event_of ws))) (le_antisymm (omega arith) (omega arith))

@@ -1,8 +1,9 @@
--- `sheet_events::ordered` meets its contract. The invariant: the doses that are left, on the sum so far, give the whole.
+-- `sheet_events::ordered` meets its contract. The invariant: the sum of the first i events.
 use mathlib.Core.Path.{◌≡◌}
-use lib.ListN.{drop}
-use Rattle.sheet_events.specs.OrderedDoses.{ordered_from, ordered}
+use Rattle.matrix.specs.Matrix.{tabulate}
+use Rattle.events_layout.specs.Layout.{event_of}
+use Rattle.sheet_events.specs.OrderedDoses.{ordered}
 use Rattle.sheet_events.proofs.ordered.Given as goal
 
-abbrev pub invariant-loop-event : goal.invariant-loop-event
-invariant-loop-event l = ordered_from l.sum (drop l.event-index l.events) ≡ ordered l.events
+abbrev pub invariant-loop-i : goal.invariant-loop-i
+invariant-loop-i g l = l.sum ≡ ordered (tabulate l.i (event_of (g.W.Words.words l.words)))

@@ -10,15 +10,6 @@ use Rattle.sheet_words.proofs.Bytes.{words-length}
 use Rattle.sheet_words.proofs.Ends.{and_le, room-left}
 use Rattle.sheet_words.proofs.next.Goals as goal
 
-pub overflow_add-result : goal.overflow_add-result
-overflow_add-result c =
-    omega (
-      arith,
-      and_le (eqb c.word-first.result c.args.at) (c.args.at + c.word-count.result)
-          (length c.args.bytes.now / 8) (sym (ap (λ (b : Bool). eqb c.word-first.result c.args.at && b)
-          (room-left c.args.at c.word-count.result (length c.args.bytes.now / 8) c.requires.2)) ∙ c.if-first-at.true),
-    )
-
 pub returns-then-first-at : goal.returns-then-first-at
 unfolding next_of
 returns-then-first-at c =

@@ -1,5 +1,6 @@
 -- `simulation::simulate` meets its contract.
-use mathlib.Core.Path.{◌≡◌, refl, sym}
+use mathlib.Core.Path.{◌≡◌, refl, sym, ◌∙◌}
+use borrow.Author.Rules.{rules}
 use mathlib.Core.Bool.{false, ◌&&◌}
 use lib.Dec.{leb}
 use Rattle.limits.specs.Limits.{most_events, most_samples}
@@ -68,4 +69,4 @@ returns c =
     (room (length g.times.now) (length g.sides.now) (length g.values.now)) (le-leb _ _ c.if-events-gt-EVENTS.false)
     (le-leb _ _ c.if-samples-gt-SAMPLES.false) t q.0 refl c.in_ok-admitted.ensures refl q.1 g.times.now g.sides.now g.values.now
     (r.result_value, (r.times_after, (r.sides_after, r.values_after))) in
-    record { result_value = w.0; times_after = w.1.0; sides_after = w.1.1.0; values_after = w.1.1.1 }
+    record { result_value = w.0; times_after = search rules ∙ w.1.0; sides_after = search rules ∙ w.1.1.0; values_after = search rules ∙ w.1.1.1 }

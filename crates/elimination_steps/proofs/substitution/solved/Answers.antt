@@ -1,17 +1,17 @@
+use mathlib.Core.Path.{◌≡◌}
+use Prim.Native.Nat.{◌-◌}
 use native.Mathlib.Omega.{arith}
-use native.Mathlib.Nat.{le_antisymm}
 use lib.Ieee.{of_bits}
-use Rattle.cycle.specs.Elimination.{solve_to}
 use Rattle.std.proofs.lemmas.List.{take-replicate}
+use Rattle.cycle.specs.Elimination.{solve_to}
 use Rattle.elimination_steps.proofs.Substitutions.{solved-more}
 use Rattle.elimination_steps.proofs.substitution.solved.Goals as goal
 
-pub loop-d-init : goal.loop-d-init
+pub loop-i-init : goal.loop-i-init
 unfolding solve_to of_bits
-loop-d-init c = (omega arith, take-replicate c.args.n 4 _ c.requires)
+loop-i-init c =
+    let none : c.args.system.now.n - c.args.system.now.n ≡ 0 = omega arith in
+    rw none (take-replicate c.args.system.now.n 4 _ (omega arith))
 
-pub loop-d-preserved : goal.loop-d-preserved
-loop-d-preserved c = (omega arith, solved-more _ _ _ _ _ c.loop-d-test.true c.loop-d.invariant.1 c.solved_sum-sum.ensures c.at.ensures)
-
-pub returns : goal.returns
-returns c = rw (le_antisymm c.loop-d.invariant.0 c.loop-d-test.false) at c.loop-d.invariant.1
+pub loop-i-preserved : goal.loop-i-preserved
+loop-i-preserved c = solved-more _ _ _ _ _ (omega arith) (omega arith) c.loop-i.invariant c.solved_sum.ensures c.at.ensures

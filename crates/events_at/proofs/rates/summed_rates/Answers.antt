@@ -2,7 +2,7 @@ use mathlib.Core.Path.{refl, ◌∙◌, ◌≡◌}
 use lib.ListN.{length-set}
 use lib.Ieee.{of_bits, binary64}
 use Rattle.protocol.specs.Schedule.{summed}
-use Rattle.events_at.proofs.SummedRates.{rates-more, rates-done, rate_skip, rate_beyond, rate_put}
+use Rattle.events_at.proofs.SummedRates.{rates-more, rates-done, rate_put}
 use Rattle.std.proofs.lemmas.List.{take-replicate}
 use Rattle.std.proofs.lemmas.Slice.Zip.{either_empty_from_Zip}
 use Rattle.std.specs.Iterator.Adapters.{zip_first, zip_second}
@@ -24,25 +24,6 @@ loop-event-preserved-then-i-n c =
       rates-more g.n g.t c.in-Some.event.now c.in-Some.marked.now l.rates _ c.in-Some.ensures.steps.0 c.in-Some.ensures.steps.1
           (rate_put g.n g.t c.in-Some.event.now c.in-Some.marked.now c.flows.ensures l.rates c.target-i.result c.if-flows.true
           c.target-i.ensures c.rate_of.ensures c.if-i-n.true) l.invariant.1,
-    )
-
-pub loop-event-preserved-else-i-n : goal.loop-event-preserved-else-i-n
-loop-event-preserved-else-i-n c =
-    let g = c.args in
-    let l = c.loop-event in (
-      l.invariant.0,
-      rates-more g.n g.t c.in-Some.event.now c.in-Some.marked.now l.rates _ c.in-Some.ensures.steps.0 c.in-Some.ensures.steps.1
-          (rate_beyond g.n g.t c.in-Some.event.now c.in-Some.marked.now c.flows.ensures l.rates c.target-i.result c.if-flows.true
-          c.target-i.ensures c.if-i-n.false) l.invariant.1,
-    )
-
-pub loop-event-preserved : goal.loop-event-preserved
-loop-event-preserved c =
-    let g = c.args in
-    let l = c.loop-event in (
-      l.invariant.0,
-      rates-more g.n g.t c.in-Some.event.now c.in-Some.marked.now l.rates _ c.in-Some.ensures.steps.0 c.in-Some.ensures.steps.1
-          (rate_skip g.n g.t c.in-Some.event.now c.in-Some.marked.now c.flows.ensures l.rates c.if-flows.false) l.invariant.1,
     )
 
 pub returns : goal.returns

@@ -5,11 +5,4 @@ use Rattle.linear_pk.proofs.kernel.kernel_of.Goals as goal
 
 pub returns : goal.returns
 unfolding kernel_of of_bits
-returns c =
-    rw (
-      c.matrix-cells.ensures,
-      c.unwrap_or.ensures,
-      c.central.ensures.0,
-      c.padded-list.ensures,
-      c.is_some-depot.ensures,
-    )
+returns c = rw (c.matrix-matrix.ensures, c.padded-list.ensures, c.is_some.ensures)

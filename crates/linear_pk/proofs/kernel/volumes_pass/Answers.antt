@@ -18,5 +18,5 @@ returns c = sym (volumes_by c.args.kernel (counts _ c.state_count.ensures.0 c.if
 pub returns-then-state_count-eq0 : goal.returns-then-state_count-eq0
 returns-then-state_count-eq0 c = rw (no_states _ (sym c.state_count.ensures.0 ∙ c.if-state_count-eq0.true))
 
-pub all_positive-requires : goal.all_positive-requires
-all_positive-requires c = omega (arith, few_volumes c.args.kernel (counts _ c.state_count.ensures.0 c.if-state_count-eq0.false))
+pub shared_ref_as_front-all_positive : goal.shared_ref_as_front-all_positive
+shared_ref_as_front-all_positive c = omega (arith, few_volumes c.args.kernel (counts _ c.state_count.ensures.0 c.if-state_count-eq0.false))

@@ -1,6 +1,4 @@
 -- `preparation::admission::admitted` meets its contract.
-use native.Mathlib.Omega.{arith}
-use native.Mathlib.Nat.{mul-le-mul_left}
 use mathlib.Core.List.{[], ◌∷◌}
 use Rattle.protocol.specs.First.{unless}
 use Rattle.protocol.specs.Prepare.{reckoned, prepare}
@@ -10,9 +8,6 @@ use Rattle.std.proofs.lemmas.Result.{err_from_is_err_and}
 use Rattle.refusal.proofs.Numbers.{refusal-number}
 use Rattle.preparation.proofs.Tests.{first_refused, prepare-passes}
 use Rattle.preparation.proofs.admission.admitted.Goals as goal
-
-pub overflow_mul-rows : goal.overflow_mul-rows
-overflow_mul-rows c = omega (arith, mul-le-mul_left c.reckoned_rows-rows.result c.requires.0, c.reckoned_rows-rows.ensures, c.requires.1, c.requires.2)
 
 pub returns-in_err-prepared : goal.returns-in_err-prepared
 returns-in_err-prepared c =

@@ -18,26 +18,36 @@ loop-start-init c = writes_none _
 pub cycle_line-requires : goal.cycle_line-requires
 cycle_line-requires c =
     let g = c.args.self.now in
+    let xs = take g.n g.starts.now in
+    let ys = take g.n g.ends.now in
+    let h = length-take-le g.n g.starts.now g.held in
+    let l = length-take-le g.n g.ends.now g.ended in
     let k = length c.loop-start.yielded in
-    let z = zip_turn g.starts.now g.ends.now c.loop-start.yielded c.into_iter-start-iterator.result c.loop-start.start-iterator c.next.new.self c.next.result
+    let z = zip_turn xs ys c.loop-start.yielded c.into_iter-start-iterator.result c.loop-start.start-iterator c.next.new.self c.next.result
     (search rules) (search rules) c.loop-start.yielded_by _ c.in-Some.is (search rules) in
-    let a : length (take k g.starts.now) ≡ k = length-take-le k g.starts.now (omega (arith, z.0)) in
-    let r : length (take k g.ends.now) ≡ k = length-take-le k g.ends.now (omega (arith, z.1)) in
-    omega (arith, z.0, a, lines_length_lem g.tolerance (take k g.starts.now) (take k g.ends.now) (omega (arith, a, r)), c.loop-start.invariant.wrote.place, c.loop-start.invariant.wrote.same)
+    let a : length (take k xs) ≡ k = length-take-le k xs (omega (arith, z.0)) in
+    let r : length (take k ys) ≡ k = length-take-le k ys (omega (arith, z.1)) in
+    omega (arith, z.0, a, h, lines_length_lem g.tolerance (take k xs) (take k ys) (omega (arith, a, r)), c.loop-start.invariant.wrote.place, c.loop-start.invariant.wrote.same)
 
 pub loop-start-preserved : goal.loop-start-preserved
 loop-start-preserved c =
     let g = c.args.self.now in
+    let xs = take g.n g.starts.now in
+    let ys = take g.n g.ends.now in
     let k = length c.loop-start.yielded in
-    let z = zip_turn g.starts.now g.ends.now c.loop-start.yielded c.into_iter-start-iterator.result c.loop-start.start-iterator c.next.new.self c.next.result
+    let z = zip_turn xs ys c.loop-start.yielded c.into_iter-start-iterator.result c.loop-start.start-iterator c.next.new.self c.next.result
     (search rules) (search rules) c.loop-start.yielded_by _ c.in-Some.is (search rules) in
     simp length-append
-    (rw (lines_more g.tolerance k g.starts.now g.ends.now z.0 z.1) at (writes_both c.loop-start.invariant (rw (z.2 nan, z.3 nan) at c.cycle_line.ensures)))
+    (rw (lines_more g.tolerance k xs ys z.0 z.1) at (writes_both c.loop-start.invariant (rw (z.2 nan, z.3 nan) at c.cycle_line.ensures)))
 
 pub returns : goal.returns
 returns c =
     let g = c.args.self.now in
+    let xs = take g.n g.starts.now in
+    let ys = take g.n g.ends.now in
+    let h = length-take-le g.n g.starts.now g.held in
+    let l = length-take-le g.n g.ends.now g.ended in
     let k = length c.loop-start.yielded in
-    let z = zip_end g.starts.now g.ends.now c.loop-start.yielded c.into_iter-start-iterator.result c.loop-start.start-iterator c.next.new.self c.next.result
+    let z = zip_end xs ys c.loop-start.yielded c.into_iter-start-iterator.result c.loop-start.start-iterator c.next.new.self c.next.result
     (search rules) (search rules) c.loop-start.yielded_by c.in-None.is (search rules) in
-    rw (take_all k g.starts.now (omega (arith, z)), take_all k g.ends.now (omega (arith, z))) at c.loop-start.invariant
+    rw (take_all k xs (omega (arith, z, h, l)), take_all k ys (omega (arith, z, h, l))) at c.loop-start.invariant

@@ -5,4 +5,4 @@ use Rattle.printout_cycle.specs.Lines.{cycle_lines}
 use Rattle.printout_cycle.proofs.PrintedCycle.put_lines.Given as goal
 
 abbrev pub invariant-loop-start : goal.invariant-loop-start
-invariant-loop-start l = Writes (cycle_lines l.self.tolerance (take (length l.yielded) l.self.starts.now) (take (length l.yielded) l.self.ends.now)) l.initial.w l.w
+invariant-loop-start l = Writes (cycle_lines l.self.tolerance (take (length l.yielded) (take l.self.n l.self.starts.now)) (take (length l.yielded) (take l.self.n l.self.ends.now))) l.initial.w l.w

@@ -2,7 +2,7 @@
 use native.Mathlib.Omega.{arith}
 use borrow.Author.Rules.{rules}
 use Rattle.printout_numbers.proofs.Writing.{writes_both}
-use Rattle.printout_cycle.proofs.Lengths.{lines_length_lem}
+use Rattle.printout_cycle.proofs.Lengths.{front_lines}
 use Rattle.printout_cycle.proofs.Lines.{verdict_length}
 use Rattle.printout_cycle.proofs.PrintedCycle.write.Goals as goal
 
@@ -12,7 +12,7 @@ put_lines-requires c = omega arith
 pub put_verdict-requires : goal.put_verdict-requires
 put_verdict-requires c =
     let s = c.args.self.now in
-    omega (arith, lines_length_lem s.tolerance s.starts.now s.ends.now s.ended, verdict_length c.args.closed)
+    omega (arith, front_lines s.tolerance s.n s.starts.now s.ends.now s.held s.ended, verdict_length c.args.closed)
 
 pub returns : goal.returns
 returns c =

@@ -14,7 +14,7 @@ returns-clause-row c =
     let h = room_here g.n k c.requires.1 in
     rw (
       put_one k g.t r.times.now,
-      put_one k c.code.result r.sides.now,
-      c.code.ensures,
+      put_one k c.from.result r.sides.now,
+      c.from.ensures,
       put-lent (k * g.n) (take g.n g.start.amounts) r.values.now _ (omega (arith, h.values, length-take-le g.n g.start.amounts (omega arith))) c.row_writer.ensures,
     )

@@ -54,13 +54,11 @@ returns-then-res-n c =
 pub interval-requires : goal.interval-requires
 interval-requires c =
     let h = not-false (c.amounts_pass.result
-    && (c.amounts_pass-2.result && c.is_nonnegative.result)) (ap not c.if-not-amounts_pass-is_nonnegative.false) in (
-      c.state_count-n.ensures.1,
-      amounts-count _ c.args.amounts.now (sym c.amounts_pass.ensures ∙ and_first c.amounts_pass.result _ h),
-      amounts-count _ c.args.rates.now (sym c.amounts_pass-2.ensures
-          ∙ and_first c.amounts_pass-2.result _ (and_second c.amounts_pass.result _ h)),
-      c.if-res-n.false,
-    )
+    && (c.amounts_pass-2.result && c.is_nonnegative.result)) (ap not c.if-not-amounts_pass-is_nonnegative.false) in
+    let n = amounts-count _ c.args.amounts.now (sym c.amounts_pass.ensures ∙ and_first c.amounts_pass.result _ h) in
+    let m = amounts-count _ c.args.rates.now (sym c.amounts_pass-2.ensures
+    ∙ and_first c.amounts_pass-2.result _ (and_second c.amounts_pass.result _ h)) in
+    (rw n c.state_count-n.ensures.1, m ∙ sym n, rw n c.if-res-n.false)
 
 pub returns-in_err-check : goal.returns-in_err-check
 returns-in_err-check c =
@@ -72,6 +70,9 @@ returns-in_err-check c =
 
 pub returns : goal.returns
 returns c =
+    let h = not-false (c.amounts_pass.result
+    && (c.amounts_pass-2.result && c.is_nonnegative.result)) (ap not c.if-not-amounts_pass-is_nonnegative.false) in
+    let n = amounts-count _ c.args.amounts.now (sym c.amounts_pass.ensures ∙ and_first c.amounts_pass.result _ h) in
     rw (
       advance-sound scheme c.args.self c.args.amounts.now c.args.rates.now c.args.duration
           (length c.args.res.now) {b = c.amounts_pass.result
@@ -82,11 +83,10 @@ returns c =
             c.is_nonnegative.ensures,
             c.state_count-n.ensures.0,
           )),
-      not-false (c.amounts_pass.result && (c.amounts_pass-2.result
-          && c.is_nonnegative.result)) (ap not c.if-not-amounts_pass-is_nonnegative.false),
+      h,
       ← c.state_count-n.ensures.0,
       le-leb _ _ c.if-res-n.false,
     ) (record {
-      result_value = c.interval.ensures.result_value;
-      res_after = c.interval.ensures.res_after;
+      result_value = rw n at c.interval.ensures.result_value;
+      res_after = rw n at c.interval.ensures.res_after;
     })
