@@ -15,8 +15,7 @@ use lib.Ieee.Order.{round_mono}
 use lib.Ieee.Scale.{overflow, round_same}
 use lib.Ieee.Positive.{above, positive_of_value, above_of_le}
 use Rattle.binary64.specs.Doubles.{negative, total_le}
-use Rattle.binary64.proofs.Units.{pow_le_back, pow_split, quanta, quanta_exact, quanta_lt, fits_says}
-use Rattle.binary64.proofs.Units.{scaled, scale_eqb, on_line, mag, Good}
+use Rattle.binary64.proofs.Units.{pow_le_back, pow_split, quanta, quanta_exact, quanta_lt, fits_says, scaled, scale_eqb, on_line, mag, Good}
 use Rattle.binary64.proofs.Total.{rank, total_rank}
 use Rattle.binary64.proofs.TotalOrder.{total_antisym}
 

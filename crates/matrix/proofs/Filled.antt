@@ -1,45 +1,11 @@
--- Laws of `tabulate`, and of an array that is filled from the front.
+-- Laws of `tabulate`: equal entries, its length, an entry, its front.
 use mathlib.Core.Path.{◌≡◌, refl, ap, ◌∙◌}
 use mathlib.Core.List.{List, [], ◌∷◌}
 use Prim.Native.Nat.{ℕ, zero, suc, ◌+◌, ◌<◌, ◌≤◌}
-use native.Mathlib.Nat.{not-suc-le-zero, le_of_suc-le-suc, add-zero, zero-add, suc-add, add-suc, le_antisymm, zero-lt-suc}
-use native.Mathlib.Numerals.{add-one}
+use native.Mathlib.Nat.{not-suc-le-zero, le_of_suc-le-suc, add-zero, zero-add, suc-add, add-suc, zero-lt-suc}
 use native.Mathlib.Omega.{arith}
-use lib.ListN.{length, get_or, set, take, replicate}
+use lib.ListN.{length, get_or, take, replicate}
 use Rattle.matrix.specs.Matrix.{tabulate, tabulate_from}
-
--- w cells: f i, f (i + 1), .. for the first m of them, then z
-unfoldable pub fill_from : {A : Type 0} → (ℕ → A) → A → ℕ → ℕ → ℕ → List A
-fill_from f z i w zero = replicate w z
-fill_from f z i zero (suc m) = []
-fill_from f z i (suc w) (suc m) = f i ∷ fill_from f z (suc i) w m
-
-unfoldable pub fill : {A : Type 0} → ℕ → ℕ → (ℕ → A) → A → List A
-unfolding fill_from
-fill w m f z = fill_from f z 0 w m
-
-module _ {A : Type 0} (f : ℕ → A) (z : A) where
-  from_more : (i w j : ℕ) → j < w → set (fill_from f z i w j) j (f (i + j)) ≡ fill_from f z i w (suc j)
-  unfolding fill_from
-  from_more i zero j h = absurd (not-suc-le-zero h)
-  from_more i (suc w) zero h = rw add-zero
-  from_more i (suc w) (suc j) h = ap {B = List A} (λ r. f i ∷ r) (rw (add-suc, ← suc-add) (from_more (suc i) w j (le_of_suc-le-suc h)))
-
-  -- one more cell is stored
-  pub fill_more : (w j : ℕ) {row : List A} {v : A} → row ≡ fill w j f z → v ≡ f j → j < w → set row j v ≡ fill w (j + 1) f z
-  unfolding fill
-  fill_more w j p q h = rw (p, q, add-one) (rw zero-add at (from_more 0 w j h))
-
-  from_part : (i w m : ℕ) → m ≤ w → take m (fill_from f z i w m) ≡ tabulate_from i m f
-  unfolding fill_from tabulate_from
-  from_part i w zero h = refl
-  from_part i zero (suc m) h = absurd (not-suc-le-zero h)
-  from_part i (suc w) (suc m) h = ap {B = List A} (λ r. f i ∷ r) (from_part (suc i) w m (le_of_suc-le-suc h))
-
-  -- the part that is
-  pub part_filled : (w j m : ℕ) {row : List A} → j ≤ m → m ≤ j → m ≤ w → row ≡ fill w j f z → take m row ≡ tabulate m f
-  unfolding fill tabulate
-  part_filled w j m p q h r = ap (take m) (rw (le_antisymm p q) at r) ∙ from_part 0 w m h
 
 module _ {A : Type 0} where
   from_cong : (f g : ℕ → A) (i m : ℕ) → ((k : ℕ) → k < m → f (i + k) ≡ g (i + k)) → tabulate_from i m f ≡ tabulate_from i m g

@@ -12,8 +12,7 @@ use lib.Ieee.{Float, binary64, mul, eq, lt}
 use lib.Ieee.Scale.{finite}
 use Rattle.binary64.specs.Doubles.{plus_zero, half, nonnegative}
 use Rattle.refusal.specs.Result.{Result, refused, done, and_then, unless, number, slice_at_exit}
-use Rattle.refusal.specs.Numbers.{reply_number, result_of}
-use Rattle.refusal.specs.Numbers.{Reply}
+use Rattle.refusal.specs.Numbers.{reply_number, result_of, Reply}
 use Rattle.std.specs.Prelude.{Ok, Err}
 use Rattle.refusal.proofs.Numbers.{refusal-number}
 use Rattle.matrix.specs.Matrix.{Matrix, cell, tabulate, all_to}

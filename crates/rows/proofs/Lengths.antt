@@ -3,11 +3,10 @@ use mathlib.Core.Path.{◌≡◌, refl, ap, ◌∙◌}
 use Prim.Native.Nat.{ℕ, suc, ◌+◌, ◌*◌, ◌≤◌}
 use native.Mathlib.Nat.{suc-mul}
 use native.Mathlib.Omega.{arith}
-use mathlib.Core.Bool.{Bool, true, false, cond}
+use mathlib.Core.Bool.{Bool, true, false, cond, ◌&&◌}
 use mathlib.Core.List.{List, [], ◌∷◌, ◌++◌, map}
 use lib.ListN.{length, length-append, length-map, replicate}
 use lib.Ieee.{Float, lt}
-use mathlib.Core.Bool.{◌&&◌}
 use Rattle.binary64.specs.Lists.{pick, filter}
 use Rattle.binary64.specs.Sort.{insert_by, sort_by}
 use Rattle.protocol.specs.declared.Event.{Event}

@@ -7,8 +7,7 @@ use Rattle.matrix.specs.Exponential.{scheme}
 use Rattle.linear_pk.specs.declared.kernel.LinearPk.{LinearPk}
 use Rattle.linear_pk.specs.LinearPk.{advance}
 use Rattle.protocol.specs.Schedule.{Step, row_count, total}
-use Rattle.protocol.specs.Execute.{Propagator, Row, go, stop, run, begin}
-use Rattle.protocol.specs.Execute.{Outcome as RunOutcome}
+use Rattle.protocol.specs.Execute.{Propagator, Row, go, stop, run, begin, Outcome as RunOutcome}
 use Rattle.protocol.specs.PlainRun.{rows_left}
 use Rattle.rows.specs.Written.{Cells, written, RoomForRows}
 use Rattle.rows.specs.declared.Progress.{Progress}

@@ -219,20 +219,6 @@ module _ (k : LinearPk) (initial : List Float) (w : Window) (ss : List Float) (e
           room_less (state_count k) (reckoned ss es) (reckoned ss es) (cells ts ds vs) (cells ts' ds' vs') (le_refl (reckoned ss es))
           (ran-same r) cleared_room
 
-      pub stopped-same : {ts'' : List Float} {ds'' : List ℕ} {vs'' : List Float}
-          → ts'' ≡ front_then_zeros plus_zero (reckoned ss es) [] ts' → ds'' ≡ front_then_zeros 0 (reckoned ss es) [] ds'
-          → vs'' ≡ front_then_zeros plus_zero (reckoned ss es * state_count k) [] vs'
-          → (length ts'' ≡ length times) × (length ds'' ≡ length sides) × (length vs'' ≡ length values)
-      stopped-same a b c =
-          let s = ran-same r in (
-            ap length a ∙ laid_length plus_zero (reckoned ss es) [] ts' zero-le left-room.times ∙ s.times ∙ ap length t
-                ∙ laid_length plus_zero (reckoned ss es) [] times zero-le whole_room.times,
-            ap length b ∙ laid_length 0 (reckoned ss es) [] ds' zero-le left-room.sides ∙ s.sides ∙ ap length d
-                ∙ laid_length 0 (reckoned ss es) [] sides zero-le whole_room.sides,
-            ap length c ∙ laid_length plus_zero (reckoned ss es * state_count k) [] vs' zero-le left-room.values ∙ s.values ∙ ap length v
-                ∙ laid_length plus_zero (reckoned ss es * state_count k) [] values zero-le whole_room.values,
-          )
-
       pub stopped_exit : (z : Stop) → p ≡ Err z → {ts'' : List Float} {ds'' : List ℕ} {vs'' : List Float}
           → ts'' ≡ front_then_zeros plus_zero (reckoned ss es) [] ts' → ds'' ≡ front_then_zeros 0 (reckoned ss es) [] ds'
           → vs'' ≡ front_then_zeros plus_zero (reckoned ss es * state_count k) [] vs'
@@ -314,9 +300,6 @@ module _ (k : LinearPk) (initial : List Float) (w : Window) (ss : List Float) (e
 
           values_again : vs'' ≡ front_then_zeros plus_zero (reckoned ss es * state_count k) [] vs'
           values_again = v' ∙ ap₂ (λ (i j : ℕ). front_then_zeros plus_zero (i * j) [] vs') q m
-
-          pub same_again : (length ts'' ≡ length times) × (length ds'' ≡ length sides) × (length vs'' ≡ length values)
-          same_again = stopped-same times_cleared sides_cleared values_cleared prepared ran times_again sides_again values_again
 
           pub stopped : (z : Stop) → p ≡ Err z
               → (run_reply (Err (Stopped z.refusal z.time z.at.made)) ≡ report_of whole)

@@ -6,7 +6,7 @@ use Prim.Native.Nat.{ℕ, suc, ◌+◌, ◌-◌, ◌<◌, ◌≤◌, min}
 use native.Mathlib.Numerals.{add-one}
 use native.Mathlib.Omega.{arith}
 use lib.ListN.{length, get_or, drop, take, replicate}
-use lib.Seq.{drop-cons}
+use lib.Seq.{drop-cons, take_all}
 use Rattle.std.proofs.lemmas.List.{take-replicate}
 use lib.Ieee.{Float, nan}
 use Rattle.limits.specs.Limits.{most_events}
@@ -16,7 +16,6 @@ use Rattle.protocol.specs.declared.Event.{Event}
 use Rattle.rows.specs.Written.{Cells}
 use Rattle.std.specs.Prelude.{Ok, Err, Result}
 use Rattle.std.proofs.Common.{drop_of_length-le, not-suc-le-zero}
-use lib.Seq.{take_all}
 use Rattle.rows.specs.Standing.{Ran, Fits}
 use Rattle.rows.specs.declared.Progress.{Progress}
 use Rattle.rows.specs.declared.Stopped.{Stopped}

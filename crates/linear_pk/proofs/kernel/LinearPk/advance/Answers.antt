@@ -1,8 +1,6 @@
-use mathlib.Core.Path.{ap}
-use mathlib.Core.Bool.{not}
+use mathlib.Core.Path.{ap, refl, sym, ◌∙◌}
+use mathlib.Core.Bool.{not, ◌&&◌}
 -- `linear_pk::kernel::LinearPk::advance` meets its contract.
-use mathlib.Core.Path.{refl, sym, ◌∙◌}
-use mathlib.Core.Bool.{◌&&◌}
 use lib.ListN.{length}
 use borrow.Author.Tests.{not-true, not-false, lt-leb, le-leb}
 use Rattle.matrix.specs.Exponential.{scheme}
