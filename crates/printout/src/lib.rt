@@ -4,7 +4,7 @@
 ghost use Rattle.std.specs.Prelude.{◌≡◌, ◌≤◌, length, eqb};
 ghost use Rattle.limits.specs.Limits.{states, most_rows};
 ghost use Rattle.printout.specs.Printout.{rows_text, refused_text};
-ghost use Rattle.printout.specs.Cells.{Wrote};
+ghost use Rattle.printout.specs.Cells.{Wrote, printed, printed_length};
 ghost use Rattle.refusal.specs.Numbers.{refusal_number, reply_number};
 ghost use Rattle.printout.specs.Printouts.{number_or_short};
 ghost use Rattle.printout.specs.Replies.{Prints, refusal as refusal_of, refused_at, answer};
@@ -63,23 +63,32 @@ pub fn print_run(rows: &PrintedRows<'_>, ordered: f64, out: &mut [u8]) -> PrintR
     reply_of(Ok(()), length)
 }
 
-fn write_refused(refusal: Refusal, time: f64, out: &mut [u8]) -> usize
-    requires { length (refused_text (refusal_number refusal) time) ≤ length out.old }
-    ensures { Wrote (refused_text (refusal_number refusal) time) 0 out.old result out.new }
+fn write_refused(number: u64, time: f64, out: &mut [u8]) -> usize
+    requires { length (refused_text number time) ≤ length out.old }
+    ensures { Wrote (refused_text number time) 0 out.old result out.new }
 {
     let mut w = Writer { out, at: 0 };
-    put_refused(&mut w, u64::from(refusal), time);
+    put_refused(&mut w, number, time);
     w.at
+}
+
+// How many bytes the text of any number and its time has, which then stands in front; 0 where there is no room for it, and the cells are as they were.
+// By length: `PrintReply` has a refusal, where this takes any number.
+pub fn print_number(number: u64, time: f64, out: &mut [u8]) -> usize
+    ensures value { result ≡ printed_length (refused_text number time) out.old }
+    ensures out_after { out.new ≡ printed (refused_text number time) out.old }
+{
+    if refused_length(number) > out.len() {
+        return 0;
+    }
+    write_refused(number, time, out)
 }
 
 // The printout of a refusal and its time.
 pub fn print_refused(refusal: Refusal, time: f64, out: &mut [u8]) -> PrintReply
     ensures { Prints (refused_at (refusal_number refusal) time) out.old result out.new }
 {
-    if refused_length(u64::from(refusal)) > out.len() {
-        return reply_of(Err(refusal), 0);
-    }
-    let length = write_refused(refusal, time, out);
+    let length = print_number(u64::from(refusal), time, out);
     reply_of(Err(refusal), length)
 }
 

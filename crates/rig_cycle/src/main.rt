@@ -1,7 +1,8 @@
 // Reads a sheet on standard input to its end, starts from the amounts that solve its cycle, runs one cycle more and writes the printout of it.
 #![tactic(auto)]
 
-ghost use Rattle.rig_cycle_sheet.specs.CycleSheet.{cycle_printout_of_bytes};
+ghost use Rattle.std.specs.Prelude.{◌≡◌, length};
+ghost use Rattle.rig_cycle_sheet.specs.CycleSheet.{cycle_printout_of_bytes, most_cycle_bytes};
 
 use rig_cycle_sheet::CYCLE_BYTES;
 use rig_streams::Program;
@@ -21,8 +22,15 @@ impl Program<CYCLE_BYTES> for RigCycle {
     }
 }
 
+// Room for any printout.
+fn output() -> [u8; CYCLE_BYTES]
+    ensures { most_cycle_bytes ≡ length result }
+{
+    [0; CYCLE_BYTES]
+}
+
 // By program: each has a `main`, and lends the cells for its own printout.
 fn main(rt: HostRuntime) {
-    let mut text = [0u8; CYCLE_BYTES];
+    let mut text = output();
     rig_streams::run::<RigCycle, _>(&rt, &mut text)
 }

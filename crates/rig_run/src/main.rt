@@ -1,7 +1,8 @@
 // Reads a sheet on standard input to its end and writes its printout.
 #![tactic(auto)]
 
-ghost use Rattle.rig_run_printout.specs.Rig.{printout_of_bytes};
+ghost use Rattle.std.specs.Prelude.{◌≡◌, length};
+ghost use Rattle.rig_run_printout.specs.Rig.{printout_of_bytes, most_bytes};
 
 use rig_run_printout::RUN_BYTES;
 use rig_streams::Program;
@@ -21,8 +22,15 @@ impl Program<RUN_BYTES> for RigRun {
     }
 }
 
+// Room for any printout.
+fn output() -> [u8; RUN_BYTES]
+    ensures { most_bytes ≡ length result }
+{
+    [0; RUN_BYTES]
+}
+
 // By program: each has a `main`, and lends the cells for its own printout.
 fn main(rt: HostRuntime) {
-    let mut text = [0u8; RUN_BYTES];
+    let mut text = output();
     rig_streams::run::<RigRun, _>(&rt, &mut text)
 }

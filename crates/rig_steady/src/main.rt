@@ -1,7 +1,8 @@
 // Reads a sheet on standard input to its end and writes the printout of its closed cycle.
 #![tactic(auto)]
 
-ghost use Rattle.rig_steady_sheet.specs.SteadySheet.{steady_printout_of_bytes};
+ghost use Rattle.std.specs.Prelude.{◌≡◌, length};
+ghost use Rattle.rig_steady_sheet.specs.SteadySheet.{steady_printout_of_bytes, most_steady_bytes};
 
 use rig_steady_sheet::STEADY_BYTES;
 use rig_streams::Program;
@@ -21,8 +22,15 @@ impl Program<STEADY_BYTES> for RigSteady {
     }
 }
 
+// Room for any printout.
+fn output() -> [u8; STEADY_BYTES]
+    ensures { most_steady_bytes ≡ length result }
+{
+    [0; STEADY_BYTES]
+}
+
 // By program: each has a `main`, and lends the cells for its own printout.
 fn main(rt: HostRuntime) {
-    let mut text = [0u8; STEADY_BYTES];
+    let mut text = output();
     rig_streams::run::<RigSteady, _>(&rt, &mut text)
 }

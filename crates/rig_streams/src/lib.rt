@@ -1,8 +1,9 @@
 // A program over a sheet: how it reads, and what of its printout is written.
 #![tactic(auto)]
 
-ghost use Rattle.std.specs.Prelude.{◌≡◌, ◌≤◌, ℕ, List, OnOk, length, take};
+ghost use Rattle.std.specs.Prelude.{◌≡◌, ◌≤◌, ◌+◌, ℕ, List, OnOk, length, take};
 ghost use Rattle.std.specs.Io.KnownBytes.{Consumes, Appends};
+ghost use Rattle.limits.specs.Limits.{sheet_bytes};
 
 use limits::SHEET_BYTES;
 use std::io::{self, Read, Write};
@@ -51,11 +52,17 @@ pub fn write_printout<P: Program<ROOM>, const ROOM: usize, W: Write>(
     out.write_all(&text[..length])
 }
 
+// Room for a sheet and one byte more: a longer file is as unfit as this much of it.
+fn input() -> [u8; SHEET_BYTES + 1]
+    ensures { sheet_bytes + 1 ≡ length result }
+{
+    [0; SHEET_BYTES + 1]
+}
+
 // Reads a sheet on standard input to its end, and writes its printout on standard output; it is printed into lent cells.
 // By channels: no clause over `rt` tells what its channels hold; what is read and written is promised by `read_full` and `write_printout`.
 pub fn run<P: Program<ROOM>, const ROOM: usize>(rt: &HostRuntime, text: &mut [u8; ROOM]) {
-    // Room for a sheet and one byte more: a longer file is as unfit as this much of it.
-    let mut bytes = [0u8; SHEET_BYTES + 1];
+    let mut bytes = input();
     let n = read_full(&mut rt.stdin(), &mut bytes);
     let written = write_printout::<P, ROOM, _>(&bytes[..n], text, &mut rt.stdout());
     if written.is_err() {

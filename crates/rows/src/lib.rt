@@ -2,9 +2,9 @@
 // By fixed memory: n, the count of a kernel's states, stands beside arrays of the most states, since there is no heap; n is the same all the way, and a state that held it would have to show at each step that it stays.
 #![tactic(auto)]
 
-ghost use Rattle.std.specs.Prelude.{◌≡◌, [], ◌++◌, ◌+◌, ◌*◌, ◌≤◌, ◌<◌, length, drop};
+ghost use Rattle.std.specs.Prelude.{◌≡◌, [], ◌∷◌, ◌++◌, ◌+◌, ◌*◌, ◌≤◌, ◌<◌, length, take, drop};
 ghost use Rattle.limits.specs.Limits.{states};
-ghost use Rattle.rows.specs.Written.{with_row_at, RoomForRows};
+ghost use Rattle.rows.specs.Written.{put, with_row_at, RoomForRows};
 ghost use Rattle.rows.specs.Lent.{cells_of, SameSlices, row_of};
 ghost use Rattle.binary64.specs.Doubles.{plus_zero};
 ghost use Rattle.protocol.specs.Entry.{side_code, front_then_zeros};
@@ -110,7 +110,7 @@ pub fn cells<T: Copy + Default, const N: usize>() -> [T; N]
 
 // The value into the first cells.
 // By loop: `fill` asks that a clone cannot fail, which `Copy` does not tell.
-fn fill_front<T: Copy>(cells: &mut [T], count: usize, value: T)
+pub fn fill_front<T: Copy>(cells: &mut [T], count: usize, value: T)
     requires { count ≤ length cells.old }
     ensures { cells.new ≡ front_then_zeros value count [] cells.old }
 {
@@ -128,20 +128,32 @@ pub struct Rows<'a> {
 }
 
 impl Rows<'_> {
-    // A row at t behind those written.
+    // A row at t behind those written. Any byte may be its side.
+    pub fn write_row(&mut self, n: usize, t: f64, side: u8, start: Progress) -> Progress
+        requires { (n ≤ states) × RoomForRows n (start.rows + 1) (cells_of self.old) }
+        ensures behind { result ≡ past_row start }
+        ensures times_after { self.new.times.now ≡ put start.rows (t ∷ []) self.old.times.now }
+        ensures sides_after { self.new.sides.now ≡ put start.rows (side ∷ []) self.old.sides.now }
+        ensures values_after { self.new.values.now ≡ put (start.rows * n) (take n start.amounts) self.old.values.now }
+        ensures slices { SameSlices self.old self.new }
+    {
+        let row = start.rows;
+        self.times[row] = t;
+        self.sides[row] = side;
+        let at = row * n;
+        let amounts = start.amounts;
+        row_writer(&amounts[..n], &mut self.values[at..]);
+        start.past_row()
+    }
+
+    // The same on a side of a boundary.
     pub fn write(&mut self, n: usize, t: f64, side: Side, start: Progress) -> Progress
         requires { (n ≤ states) × RoomForRows n (start.rows + 1) (cells_of self.old) }
         ensures behind { result ≡ past_row start }
         ensures row { cells_of self.new ≡ with_row_at n start.rows (row_of n t side start) (cells_of self.old) }
         ensures slices { SameSlices self.old self.new }
     {
-        let row = start.rows;
-        self.times[row] = t;
-        self.sides[row] = u8::from(side);
-        let at = row * n;
-        let amounts = start.amounts;
-        row_writer(&amounts[..n], &mut self.values[at..]);
-        start.past_row()
+        self.write_row(n, t, u8::from(side), start)
     }
 
     // Zeros over the first rows, of n amounts each.
