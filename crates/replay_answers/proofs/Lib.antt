@@ -1,3 +1,4 @@
 pub mod Exits
 pub mod Behind
 pub mod Steps
+pub mod Sheets

@@ -15,6 +15,14 @@ numbers_of (w ∷ ws) = option_and_then (λ n. option_map (◌∷◌ n) (numbers
 abbrev pub line_numbers : List ℕ → Option (List ℕ)
 line_numbers line = numbers_of (slice_split (λ b. eqb b 32) line)
 
+-- a list of at most n
+unfoldable pub at_most_long : ℕ → Option (List ℕ) → Option (List ℕ)
+at_most_long n list = option_and_then (λ ns. cond (leb (length ns) n) (Some ns) None) list
+
+-- the numbers of a line, at most n
+abbrev pub kept_numbers : ℕ → List ℕ → Option (List ℕ)
+kept_numbers n line = at_most_long n (line_numbers line)
+
 abbrev pub Reader : Type 0 → Type 0
 Reader A = List ℕ → Option (A × List ℕ)
 

@@ -1,12 +1,26 @@
-// How often each entry gave each outcome, and how many answers differ. A write that fails is passed over.
-ghost use Rattle.std.specs.Prelude.{◌≡◌, ◌==◌, ◌&&◌, OnOk};
+// How often each entry gave each reply, and how many answers differ. A write that fails is passed over.
+ghost use Rattle.std.specs.Prelude.{◌≡◌, ℕ, ◌==◌, ◌&&◌};
 ghost use Rattle.refusal.specs.Numbers.{reply_number};
-ghost use Rattle.replay_answers.specs.Tally.{counts_of, no_counts, skipped, answered};
+ghost use Rattle.replay_answers.specs.Tally.{counts_of, no_counts, skipped, answered, replied};
 
 use refusal::Refusal;
-use std::alloc::{AllocError, Global};
-use std::collections::BTreeMap;
 use std::fmt::Display;
+
+// One above the largest reply.
+const REPLIES: usize = 41;
+
+// How many entries have a place.
+const ENTRIES: usize = 4;
+
+const COUNTS: usize = ENTRIES * REPLIES;
+
+// An entry that a program calls: shown by its name, and its replies counted at a place from 0 to 3.
+pub trait Placed: Display {
+    ghost place_of: { Self → ℕ };
+
+    fn place(&self) -> usize
+        ensures { result ≡ place_of self.now };
+}
 
 // What a line's call came to: the entry, its outcome, whether the answer is the stored one.
 #[derive(Clone, Copy)]
@@ -31,63 +45,80 @@ impl<E> Called<E> {
     }
 }
 
-#[derive(Drop)]
-pub struct Tally<E: Ord> {
-    counts: BTreeMap<(E, Result<(), Refusal>), u64>,
-    lines: u64,
-    answers: u64,
-    differ: u64,
+#[derive(Clone, Copy)]
+pub struct Tally {
+    pub counts: [u64; COUNTS],
+    pub lines: u64,
+    pub answers: u64,
+    pub differ: u64,
 }
 
-impl<E: Ord + Display + Drop> Tally<E> {
-    pub(crate) fn new(alloc: Global) -> Self
+impl Tally {
+    pub fn new() -> Self
         ensures { counts_of result ≡ no_counts }
     {
         Tally {
-            counts: BTreeMap::new(alloc),
+            counts: [0; COUNTS],
             lines: 0,
             answers: 0,
             differ: 0,
         }
     }
 
+    // With a reply of an entry; a place or a number past the last is not counted.
+    #[tactic(auto, unfolding(crate::specs::Tally::replied))]
+    fn replied(mut self, place: usize, number: u64) -> Self
+        ensures counts { result.counts ≡ replied place number self.counts }
+        ensures lines { result.lines ≡ self.lines }
+        ensures answers { result.answers ≡ self.answers }
+        ensures differ { result.differ ≡ self.differ }
+    {
+        if place < ENTRIES && number < REPLIES as u64 {
+            let at = place * REPLIES + number as usize;
+            self.counts[at] = self.counts[at].saturating_add(1);
+        }
+        self
+    }
+
     // With a line that is a comment.
-    pub(crate) fn skip(&mut self)
-        ensures { counts_of self.new ≡ skipped (counts_of self.old) }
+    pub fn skipped(mut self) -> Self
+        ensures { counts_of result ≡ skipped (counts_of self) }
     {
         self.lines = self.lines.saturating_add(1);
+        self
     }
 
     // With a line and what its call came to, if the line is in the layout. A difference is shown.
-    pub(crate) fn add(
-        &mut self,
-        rt: &impl Print,
-        called: Option<Called<E>>,
-    ) -> Result<(), AllocError>
-        ensures { OnOk result (counts_of self.new ≡ answered called (counts_of self.old)) }
+    pub fn added<E: Placed + Drop>(mut self, rt: &impl Print, called: Option<Called<E>>) -> Self
+        ensures { counts_of result ≡ answered E.place_of called (counts_of self) }
     {
         self.lines = self.lines.saturating_add(1);
         self.answers = self.answers.saturating_add(1);
         let mut same = false;
         if let Some(called) = called {
             same = called.same;
-            let key = (called.entry, called.outcome);
-            let count = self.counts.entry(key)?.or_insert(0);
-            *count = count.saturating_add(1);
+            self = self.replied(called.entry.place(), refusal::number(called.outcome));
         }
         if !same {
             self.differ = self.differ.saturating_add(1);
             let lines = self.lines;
             let _ = println!(rt; "line {lines} differs");
         }
-        Ok(())
+        self
     }
 
-    pub(crate) fn print(&self, rt: &impl Print) {
-        for ((entry, outcome), count) in &self.counts {
-            let number = refusal::number(*outcome);
-            let _ = println!(rt; "{entry} {number}: {count}");
+    // The counts of one entry, of the replies that were met.
+    pub fn print_entry<E: Placed>(&self, rt: &impl Print, entry: &E) {
+        if let Some(counts) = self.counts.chunks_exact(REPLIES).nth(entry.place()) {
+            for (reply, count) in counts.iter().enumerate() {
+                if *count != 0 {
+                    let _ = println!(rt; "{entry} {reply}: {count}");
+                }
+            }
         }
+    }
+
+    pub fn print_total(&self, rt: &impl Print) {
         let answers = self.answers;
         let differ = self.differ;
         let _ = println!(rt; "{answers} answers, {differ} differ");

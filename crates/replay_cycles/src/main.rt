@@ -4,8 +4,8 @@
 
 mod replay;
 
-use std::io;
+use replay::Fold;
 
-fn main(rt: HostRuntime) -> io::Result<()> {
-    replay_answers::replay_main(&rt, replay::replay)
+fn main(rt: HostRuntime) {
+    replay_answers::replay_main(&rt, &[Fold], replay::replay);
 }

@@ -1,8 +1,9 @@
 // One line: a fold of the library, and the answer that it must give.
+use arrayvec::ArrayVec;
 use limits::EVENT_SIZE;
 use protocol::Window;
-use replay_answers::{Called, LineError, Parameters, Words, doubles, numbers};
-use std::alloc::Global;
+use replay_answers::{Called, LineError, Parameters, Placed, Words, doubles, numbers};
+use std::fmt;
 
 // The most volumes, exchanges, events, samples and pieces of a line.
 const VOLUMES: usize = 3;
@@ -20,46 +21,62 @@ const CELLS: usize = 120;
 
 const CELL: u64 = 99;
 
+#[derive(Clone, Copy)]
+pub struct Fold;
+
+impl Placed for Fold {
+    ghost place_of = { λ _. 0 };
+
+    fn place(&self) -> usize {
+        0
+    }
+}
+
+impl fmt::Display for Fold {
+    fn fmt<W: fmt::Write>(&self, f: &mut fmt::Formatter<W>) -> fmt::Result {
+        f.write_str("normalize_periodic_cycle")
+    }
+}
+
 // The arguments of a fold; an event is its words.
 #[derive(Drop)]
 struct Cycle<'a> {
-    parameters: Parameters,
+    parameters: Parameters<VOLUMES, EXCHANGES>,
     window: Window,
     events: &'a [u64],
-    samples: Vec<f64>,
+    samples: ArrayVec<f64, SAMPLES>,
 }
 
 impl<'a> Cycle<'a> {
-    fn read(alloc: Global, words: &mut Words<'a>) -> Result<Self, LineError> {
+    fn read(words: &mut Words<'a>) -> Result<Self, LineError> {
         Ok(Cycle {
-            parameters: Parameters::read(alloc, words, VOLUMES, EXCHANGES)?,
+            parameters: Parameters::read(words)?,
             window: words.window()?,
             events: words.items(EVENTS, EVENT_SIZE)?,
-            samples: doubles(alloc, words.items(SAMPLES, 1)?)?,
+            samples: doubles(words.items(SAMPLES, 1)?),
         })
     }
 }
 
-pub fn replay(alloc: Global, line: &str) -> Result<Called<&'static str>, LineError> {
-    let numbers = numbers(alloc, line)?;
+pub fn replay(line: &[u8]) -> Result<Called<Fold>, LineError> {
+    let numbers = numbers(line)?;
     let mut words = Words::new(numbers.as_slice());
-    let cycle = Cycle::read(alloc, &mut words)?;
+    let cycle = Cycle::read(&mut words)?;
     let stored = words.word()?;
     let pieces = words.items(PIECES, EVENT_SIZE)?;
     words.end()?;
-    let mut cells = vec![in alloc; CELL; CELLS]?;
+    let mut cells = [CELL; CELLS];
     let folded = capi_fold::fold_words(
         cycle.parameters.made().unwrap_or_default(),
         cycle.window,
         cycle.events,
         cycle.samples.as_slice(),
-        cells.as_mut_slice(),
+        &mut cells,
     );
     // The words behind the pieces stay as they were.
-    let mut expected = Vec::new(alloc);
-    expected.extend_from_slice(pieces)?;
-    expected.resize(CELLS, CELL)?;
     let count = folded.unwrap_or(0);
-    let same = count == pieces.len() / EVENT_SIZE && cells == expected;
-    Ok(Called::new("normalize_periodic_cycle", folded.map(|_| ()), stored, same))
+    let same = count == pieces.len() / EVENT_SIZE
+        && cells.starts_with(pieces)
+        && cells.iter().skip(pieces.len()).all(|cell| *cell == CELL);
+    Ok(Called::new(Fold, folded.map(|_| ()), stored, same))
 }

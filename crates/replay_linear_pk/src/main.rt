@@ -4,8 +4,9 @@
 
 mod replay;
 
-use std::io;
+use replay::Entry;
 
-fn main(rt: HostRuntime) -> io::Result<()> {
-    replay_answers::replay_main(&rt, replay::replay)
+fn main(rt: HostRuntime) {
+    let entries = [Entry::New, Entry::Advance, Entry::Concentrations];
+    replay_answers::replay_main(&rt, &entries, replay::replay);
 }

@@ -1,10 +1,15 @@
 // One line: a call of the library, and the answer that it must give.
+ghost use Rattle.std.specs.Prelude.{◌≡◌, ◌≤◌};
+ghost use Rattle.replay_linear_pk.specs.Places.{place_of};
+ghost use Rattle.arrayvec.specs.ArrayVec.{array_vec_len};
+ghost use Rattle.replay_linear_pk.specs.Rates.{rates_of as rates_in};
+
+use arrayvec::ArrayVec;
 use limits::STATES;
 use linear_pk::LinearPk;
 use refusal::Refusal;
-use replay_answers::{Called, LineError, Parameters, Words, doubles, numbers};
+use replay_answers::{Called, LineError, Parameters, Placed, Words, doubles, numbers};
 use replay_numbers::all_same;
-use std::alloc::{AllocError, Global};
 use std::fmt;
 
 // The longest lists of volumes and exchanges, of amounts and rates, and of a stored answer's cells.
@@ -14,14 +19,24 @@ const AMOUNTS: usize = 5;
 
 const CELLS: usize = 11;
 
+type Cells = ArrayVec<f64, CELLS>;
+
 // What a lent result holds before the call.
 const PREFILLED: [f64; 6] = [100.0, 101.0, 102.0, 103.0, 104.0, 105.0];
 
-#[derive(Clone, Copy, PartialEq, Eq, PartialOrd, Ord)]
+#[derive(Clone, Copy)]
 pub enum Entry {
-    New,
-    Advance,
-    Concentrations,
+    New = 1,
+    Advance = 2,
+    Concentrations = 3,
+}
+
+impl Placed for Entry {
+    ghost place_of = { place_of };
+
+    fn place(&self) -> usize {
+        *self as usize
+    }
 }
 
 impl TryFrom<u64> for Entry {
@@ -51,40 +66,34 @@ impl fmt::Display for Entry {
 // The arguments of a call; `cells` is the length of the lent result.
 #[derive(Drop)]
 struct Arguments {
-    parameters: Parameters,
-    amounts: Vec<f64>,
-    rates: Vec<f64>,
+    parameters: Parameters<VOLUMES, VOLUMES>,
+    amounts: ArrayVec<f64, AMOUNTS>,
+    rates: ArrayVec<f64, AMOUNTS>,
     duration: f64,
     cells: usize,
 }
 
 impl Arguments {
-    fn read(alloc: Global, words: &mut Words<'_>) -> Result<Self, LineError> {
+    fn read(words: &mut Words<'_>) -> Result<Self, LineError> {
         Ok(Arguments {
-            parameters: Parameters::read(alloc, words, VOLUMES, VOLUMES)?,
-            amounts: doubles(alloc, words.list(AMOUNTS)?)?,
-            rates: doubles(alloc, words.list(AMOUNTS)?)?,
+            parameters: Parameters::read(words)?,
+            amounts: doubles(words.list(AMOUNTS)?),
+            rates: doubles(words.list(AMOUNTS)?),
             duration: words.double()?,
             cells: words.at_most(PREFILLED.len())?,
         })
     }
 
-    fn prefilled(&self, alloc: Global) -> Result<Vec<f64>, AllocError> {
-        PREFILLED.iter().copied().take(self.cells).collect(alloc)
-    }
-
     // The reply, and the rates or the lent result.
-    fn called(
-        &self,
-        alloc: Global,
-        entry: Entry,
-    ) -> Result<(Result<(), Refusal>, Vec<f64>), AllocError> {
+    fn called(&self, entry: Entry) -> (Result<(), Refusal>, Cells)
+        ensures { array_vec_len result.1 ≤ 11 }
+    {
         let made = self.parameters.made();
         let kernel = made.unwrap_or_default();
-        let mut cells = self.prefilled(alloc)?;
+        let mut cells = prefilled(self.cells);
         let reply = match entry {
             Entry::New => {
-                cells = rates_of(alloc, kernel)?;
+                cells = rates_of(kernel);
                 made.map(|_| ())
             }
             Entry::Advance => kernel.advance(
@@ -97,32 +106,49 @@ impl Arguments {
                 kernel.concentrations(self.amounts.as_slice(), cells.as_mut_slice())
             }
         };
-        Ok((reply, cells))
+        (reply, cells)
     }
 }
 
-// The n by n rates of a kernel, row by row, as many as a line keeps.
-fn rates_of(alloc: Global, kernel: LinearPk) -> Result<Vec<f64>, AllocError> {
-    let n = kernel.state_count();
-    kernel
-        .matrix
-        .chunks_exact(STATES)
-        .take(n)
-        .flat_map(|row| row.iter().take(n))
-        .copied()
-        .take(CELLS)
-        .collect(alloc)
+// A lent result of so many cells, as it is before the call.
+fn prefilled(count: usize) -> Cells
+    ensures { array_vec_len result ≤ 11 }
+{
+    let mut cells = Cells::new();
+    let count = count.min(PREFILLED.len());
+    cells.try_extend_from_slice(&PREFILLED[..count]).unwrap();
+    cells
 }
 
-pub fn replay(alloc: Global, line: &str) -> Result<Called<Entry>, LineError> {
-    let numbers = numbers(alloc, line)?;
+// The n by n rates of a kernel, row by row, as many as a line keeps.
+fn rates_of(kernel: LinearPk) -> Cells
+    ensures rates { result.items ≡ rates_in kernel }
+    ensures within { array_vec_len result ≤ 11 }
+{
+    let n = kernel.state_count();
+    let rates = kernel
+        .matrix
+        .iter()
+        .enumerate()
+        .filter(|(place, _)| *place / STATES < n && *place % STATES < n)
+        .map(|(_, rate)| *rate)
+        .take(CELLS);
+    let mut cells = Cells::new();
+    for rate in rates {
+        cells.push(rate);
+    }
+    cells
+}
+
+pub fn replay(line: &[u8]) -> Result<Called<Entry>, LineError> {
+    let numbers = numbers(line)?;
     let mut words = Words::new(numbers.as_slice());
     let entry = Entry::try_from(words.word()?)?;
-    let arguments = Arguments::read(alloc, &mut words)?;
+    let arguments = Arguments::read(&mut words)?;
     let stored = words.word()?;
     let patterns = words.list(CELLS)?;
     words.end()?;
-    let (reply, cells) = arguments.called(alloc, entry)?;
+    let (reply, cells) = arguments.called(entry);
     let same = all_same(cells.as_slice(), patterns);
     Ok(Called::new(entry, reply, stored, same))
 }

@@ -22,22 +22,22 @@ fn digit(byte: u8) -> Option<u64>
 
 // Whether there is a first byte, which is no 0 in front of others.
 #[tactic(auto, unfolding(crate::specs::Text::spelled))]
-fn spelled(word: &str) -> bool
+fn spelled(word: &[u8]) -> bool
     ensures { result ≡ spelled_of word.now }
 {
-    !matches!(word.as_bytes(), [] | [b'0', _, ..])
+    !matches!(word, [] | [b'0', _, ..])
 }
 
 // The number that a word spells, where it fits 64 bits.
 #[tactic(auto, unfolding(crate::specs::Text::number_of, crate::specs::Text::number_from))]
-pub fn number(word: &str) -> Option<u64>
+pub fn number(word: &[u8]) -> Option<u64>
     ensures { result ≡ number_of word.now }
 {
     if !spelled(word) {
         return None;
     }
     let mut value = 0u64;
-    for byte in word.as_bytes() {
+    for byte in word {
         let digit = digit(*byte)?;
         value = value.checked_mul(16)? + digit;
     }

@@ -4,8 +4,9 @@
 
 mod replay;
 
-use std::io;
+use replay::Entry;
 
-fn main(rt: HostRuntime) -> io::Result<()> {
-    replay_answers::replay_main(&rt, replay::replay)
+fn main(rt: HostRuntime) {
+    let entries = [Entry::RunSheet, Entry::SteadySheet];
+    replay_answers::replay_main(&rt, &entries, replay::replay);
 }

@@ -1,8 +1,10 @@
 // One line: a sheet's run or steady state, and the printout that it must give.
+ghost use Rattle.std.specs.Prelude.{◌≤◌};
+ghost use Rattle.replay_sheets.specs.Places.{place_of};
+
 use printout::PrintReply;
 use refusal::Refusal;
-use replay_answers::{Called, LineError, Sheet};
-use std::alloc::{AllocError, Global};
+use replay_answers::{Called, LineError, Placed, Sheet, SheetBytes};
 use std::fmt;
 
 // The longest printout of a line.
@@ -11,10 +13,18 @@ const TEXT: usize = 2048;
 // What the lent cells hold before the call: no byte of a printout.
 const CELL: u8 = 200;
 
-#[derive(Clone, Copy, PartialEq, Eq, PartialOrd, Ord)]
+#[derive(Clone, Copy)]
 pub enum Entry {
     RunSheet,
     SteadySheet,
+}
+
+impl Placed for Entry {
+    ghost place_of = { place_of };
+
+    fn place(&self) -> usize {
+        *self as usize
+    }
 }
 
 impl fmt::Display for Entry {
@@ -28,24 +38,22 @@ impl fmt::Display for Entry {
 
 // Whether a call with one cell too few, `length`, refuses and leaves all cells: with 4 in place of an answer.
 fn is_refused<F: Fn(&[u8], &mut [u8]) -> PrintReply>(
-    alloc: Global,
     print: &F,
-    sheet: &Sheet<'_>,
+    sheet: Sheet<'_>,
     length: usize,
-) -> Result<bool, AllocError>
-    requires { F.IsAlwaysCallable print.now }
+) -> bool
+    requires call { F.IsAlwaysCallable print.now }
+    requires room { length ≤ 2048 }
 {
-    let mut cells = vec![in alloc; CELL; length]?;
-    let printed = print(sheet.bytes.as_slice(), cells.as_mut_slice());
+    let mut cells = [CELL; TEXT];
+    let printed = print(sheet.bytes, &mut cells[..length]);
     let number = match sheet.number {
         0 => refusal::number(Err(Refusal::ShortSlice)),
         number => number,
     };
-    Ok(
-        refusal::number(printed.reply) == number
-            && printed.length == 0
-            && cells.iter().all(|cell| *cell == CELL),
-    )
+    refusal::number(printed.reply) == number
+        && printed.length == 0
+        && cells.iter().all(|cell| *cell == CELL)
 }
 
 // The byte that a byte of the line stands for: a slash is a line feed.
@@ -55,20 +63,20 @@ fn written(byte: u8) -> u8 {
 
 // Calls what prints the sheet with one cell too few, then with as many as the text has.
 fn called<F: Fn(&[u8], &mut [u8]) -> PrintReply + Drop>(
-    alloc: Global,
     entry: Entry,
     print: F,
-    sheet: &Sheet<'_>,
+    sheet: Sheet<'_>,
 ) -> Result<Called<Entry>, LineError>
     requires { F.IsAlwaysCallable print }
 {
-    let text = sheet.printout.as_bytes();
+    let text = sheet.printout;
     if text.is_empty() || text.len() > TEXT {
         return Err(LineError::Malformed);
     }
-    let refused = is_refused(alloc, &print, sheet, text.len() - 1)?;
-    let mut cells = vec![in alloc; CELL; text.len()]?;
-    let printed = print(sheet.bytes.as_slice(), cells.as_mut_slice());
+    let refused = is_refused(&print, sheet, text.len() - 1);
+    let mut cells = [CELL; TEXT];
+    let cells = &mut cells[..text.len()];
+    let printed = print(sheet.bytes, cells);
     let is_text = cells
         .iter()
         .copied()
@@ -78,19 +86,18 @@ fn called<F: Fn(&[u8], &mut [u8]) -> PrintReply + Drop>(
 }
 
 // A line that starts with an s is one for `steady_sheet`.
-pub fn replay(alloc: Global, line: &str) -> Result<Called<Entry>, LineError> {
-    match line.strip_prefix('s') {
+pub fn replay(line: &[u8]) -> Result<Called<Entry>, LineError> {
+    let mut bytes = SheetBytes::new();
+    match line.strip_prefix(b"s") {
         Some(rest) => called(
-            alloc,
             Entry::SteadySheet,
             rig_steady_sheet::steady_sheet,
-            &Sheet::read(alloc, rest)?,
+            Sheet::read(rest, &mut bytes)?,
         ),
         None => called(
-            alloc,
             Entry::RunSheet,
             rig_run_printout::run_sheet,
-            &Sheet::read(alloc, line)?,
+            Sheet::read(line, &mut bytes)?,
         ),
     }
 }

@@ -1,6 +1,5 @@
 // The slices that are lent to a run.
-use replay_numbers::all_same;
-use std::alloc::{AllocError, Global};
+use replay_numbers::same;
 
 // Rows of the lent slices, above all that a line's run needs, and their amounts.
 const ROWS: usize = 40;
@@ -12,66 +11,60 @@ const REAL: u64 = 0x4059_2000_0000_0000;
 
 const SIDE: u8 = 99;
 
-#[derive(Drop)]
+#[derive(Clone, Copy)]
 pub struct Lent {
-    pub times: Vec<f64>,
-    pub sides: Vec<u8>,
-    pub values: Vec<f64>,
+    pub times: [f64; ROWS],
+    pub sides: [u8; ROWS],
+    pub values: [f64; AMOUNTS],
 }
 
 impl Lent {
-    pub fn new(alloc: Global) -> Result<Self, AllocError> {
+    pub fn new() -> Self {
         let real = binary64_bits::of_bits(REAL);
-        Ok(Lent {
-            times: vec![in alloc; real; ROWS]?,
-            sides: vec![in alloc; SIDE; ROWS]?,
-            values: vec![in alloc; real; AMOUNTS]?,
-        })
+        Lent {
+            times: [real; ROWS],
+            sides: [SIDE; ROWS],
+            values: [real; AMOUNTS],
+        }
     }
 }
 
-// What the slices must hold after the run, as words.
-#[derive(Drop)]
-pub struct Expected {
-    times: Vec<u64>,
-    sides: Vec<u64>,
-    values: Vec<u64>,
+// What the slices must hold after the run: `rows` has the words of those reached, each with time, side and n amounts; `reckoned` rows are written.
+#[derive(Clone, Copy)]
+pub struct Expected<'a> {
+    pub rows: &'a [u64],
+    pub n: usize,
+    pub reckoned: usize,
 }
 
-impl Expected {
-    pub fn new(alloc: Global) -> Self {
-        Expected {
-            times: Vec::new(alloc),
-            sides: Vec::new(alloc),
-            values: Vec::new(alloc),
+impl<'a> Expected<'a> {
+    // A word of a row: 0 in a row that was not reached, and in one that was not reckoned what stood there.
+    fn word(&self, row: usize, place: usize, before: u64) -> u64 {
+        if row >= self.reckoned {
+            return before;
+        }
+        let width = self.n.saturating_add(2);
+        let at = row.saturating_mul(width).saturating_add(place);
+        self.rows.get(at).copied().unwrap_or(0)
+    }
+
+    // An amount's word, by its place in the slice of all.
+    fn amount(&self, at: usize) -> u64 {
+        if self.n == 0 {
+            REAL
+        } else {
+            self.word(at / self.n, (at % self.n).saturating_add(2), REAL)
         }
     }
 
-    // By number: a line stores a side so.
-    pub fn push(&mut self, time: u64, side: u64, amounts: &[u64]) -> Result<(), AllocError> {
-        self.times.push(time)?;
-        self.sides.push(side)?;
-        self.values.extend_from_slice(amounts)?;
-        Ok(())
-    }
-
-    // With rows of n zeros behind, up to so many rows.
-    pub fn fill_with_zeros(&mut self, rows: usize, n: usize) -> Result<(), AllocError> {
-        self.times.resize(rows, 0)?;
-        self.sides.resize(rows, 0)?;
-        self.values.resize(rows.saturating_mul(n), 0)
-    }
-
     // Whether the slices hold these rows, and behind them what they held before.
-    pub fn is_in(mut self, lent: &Lent) -> Result<bool, AllocError> {
-        self.times.resize(ROWS, REAL)?;
-        self.sides.resize(ROWS, u64::from(SIDE))?;
-        self.values.resize(AMOUNTS, REAL)?;
-        let sides = lent.sides.iter().map(|side| u64::from(*side));
-        Ok(
-            all_same(lent.times.as_slice(), self.times.as_slice())
-                && sides.eq(self.sides.iter().copied())
-                && all_same(lent.values.as_slice(), self.values.as_slice()),
-        )
+    // By number: a line stores a side so.
+    pub fn is_in(&self, lent: &Lent) -> bool {
+        let mut times = lent.times.iter().enumerate();
+        let mut sides = lent.sides.iter().enumerate();
+        let mut values = lent.values.iter().enumerate();
+        times.all(|(i, time)| same(*time, self.word(i, 0, REAL)))
+            && sides.all(|(i, side)| u64::from(*side) == self.word(i, 1, u64::from(SIDE)))
+            && values.all(|(i, value)| same(*value, self.amount(i)))
     }
 }

@@ -5,8 +5,8 @@
 mod cells;
 mod replay;
 
-use std::io;
+use replay::Simulate;
 
-fn main(rt: HostRuntime) -> io::Result<()> {
-    replay_answers::replay_main(&rt, replay::replay)
+fn main(rt: HostRuntime) {
+    replay_answers::replay_main(&rt, &[Simulate], replay::replay);
 }

@@ -1,14 +1,16 @@
 // One line: a run of the library, and the answer that it must give.
-ghost use Rattle.std.specs.Prelude.{◌≤◌, length, vec_len};
+ghost use Rattle.std.specs.Prelude.{◌≤◌, length};
+ghost use Rattle.arrayvec.specs.ArrayVec.{array_vec_len};
 
 use crate::cells::{Expected, Lent};
+use arrayvec::ArrayVec;
 use limits::EVENT_SIZE;
 use protocol::Window;
 use refusal::Refusal;
-use replay_answers::{Called, LineError, Parameters, Words, doubles, numbers};
+use replay_answers::{Called, LineError, Parameters, Placed, Words, doubles, numbers};
 use replay_numbers::same;
 use simulation_report::{Reached, Report, RunError};
-use std::alloc::{AllocError, Global};
+use std::fmt;
 
 // The most volumes, exchanges, amounts, events and samples of a line.
 const VOLUMES: usize = 3;
@@ -21,26 +23,43 @@ const EVENTS: usize = 6;
 
 const SAMPLES: usize = 5;
 
+#[derive(Clone, Copy)]
+pub struct Simulate;
+
+impl Placed for Simulate {
+    ghost place_of = { λ _. 0 };
+
+    fn place(&self) -> usize {
+        0
+    }
+}
+
+impl fmt::Display for Simulate {
+    fn fmt<W: fmt::Write>(&self, f: &mut fmt::Formatter<W>) -> fmt::Result {
+        f.write_str("simulate")
+    }
+}
+
 // The arguments of a run; an event is its words.
 #[derive(Drop)]
 struct Run<'a> {
-    parameters: Parameters,
-    amounts: Vec<f64>,
+    parameters: Parameters<VOLUMES, EXCHANGES>,
+    amounts: ArrayVec<f64, AMOUNTS>,
     window: Window,
     events: &'a [u64],
-    samples: Vec<f64>,
+    samples: ArrayVec<f64, SAMPLES>,
     ghost events_within: { length events.now ≤ 36 },
-    ghost samples_within: { vec_len samples ≤ 5 },
+    ghost samples_within: { array_vec_len samples ≤ 5 },
 }
 
 impl<'a> Run<'a> {
-    fn read(alloc: Global, words: &mut Words<'a>) -> Result<Self, LineError> {
+    fn read(words: &mut Words<'a>) -> Result<Self, LineError> {
         Ok(Run {
-            parameters: Parameters::read(alloc, words, VOLUMES, EXCHANGES)?,
-            amounts: doubles(alloc, words.list(AMOUNTS)?)?,
+            parameters: Parameters::read(words)?,
+            amounts: doubles(words.list(AMOUNTS)?),
             window: words.window()?,
             events: words.items(EVENTS, EVENT_SIZE)?,
-            samples: doubles(alloc, words.items(SAMPLES, 1)?)?,
+            samples: doubles(words.items(SAMPLES, 1)?),
         })
     }
 
@@ -66,9 +85,9 @@ impl<'a> Run<'a> {
             self.window,
             list.as_slice(),
             self.samples.as_slice(),
-            lent.times.as_mut_slice(),
-            lent.sides.as_mut_slice(),
-            lent.values.as_mut_slice(),
+            &mut lent.times,
+            &mut lent.sides,
+            &mut lent.values,
         )
     }
 }
@@ -115,37 +134,27 @@ impl<'a> Stored<'a> {
             && report.rows == self.count
             && report.advances == self.advances
     }
-
-    // The rows of n amounts, and zeros for the reckoned rows that were not reached.
-    fn expected(&self, alloc: Global, n: usize, reckoned: usize) -> Result<Expected, AllocError>
-        requires { n ≤ 5 }
-    {
-        let mut expected = Expected::new(alloc);
-        for row in self.rows.chunks_exact(2 + n) {
-            if let [time, side, amounts @ ..] = row {
-                expected.push(*time, *side, amounts)?;
-            }
-        }
-        expected.fill_with_zeros(reckoned, n)?;
-        Ok(expected)
-    }
 }
 
-pub fn replay(alloc: Global, line: &str) -> Result<Called<&'static str>, LineError> {
-    let numbers = numbers(alloc, line)?;
+pub fn replay(line: &[u8]) -> Result<Called<Simulate>, LineError> {
+    let numbers = numbers(line)?;
     let mut words = Words::new(numbers.as_slice());
-    let run = Run::read(alloc, &mut words)?;
+    let run = Run::read(&mut words)?;
     let n = run.parameters.state_count();
     let stored = Stored::read(&mut words, run.reckoned(), 2 + n)?;
     words.end()?;
-    let mut lent = Lent::new(alloc)?;
+    let mut lent = Lent::new();
     let reply = run.simulated(&mut lent);
     // A run that a test ahead of it refused leaves every cell.
-    let expected = match reply {
-        Err(RunError::Refused(_)) => Expected::new(alloc),
-        Err(RunError::Stopped { .. }) | Ok(_) => stored.expected(alloc, n, run.reckoned())?,
+    let reckoned = match reply {
+        Err(RunError::Refused(_)) => 0,
+        Err(RunError::Stopped { .. }) | Ok(_) => run.reckoned(),
     };
-    let report = Report::from(reply);
-    let same = stored.is_report(report) && expected.is_in(&lent)?;
-    Ok(Called::new("simulate", outcome_of(reply), stored.number, same))
+    let expected = Expected {
+        rows: stored.rows,
+        n,
+        reckoned,
+    };
+    let same = stored.is_report(Report::from(reply)) && expected.is_in(&lent);
+    Ok(Called::new(Simulate, outcome_of(reply), stored.number, same))
 }
