@@ -1,5 +1,5 @@
 -- What one line makes of the counts, by whether it is a comment.
-use Rattle.std.proofs.Common.{◌≡◌, ℕ, true, false, List, Option, Result, Ok, Err}
+use Rattle.std.proofs.Common.{◌≡◌, ℕ, true, false, List, Result, Ok, Err}
 use Rattle.std.specs.Result.{result_ok}
 use Rattle.replay_answers.specs.declared.error.LineError.{LineError}
 use Rattle.replay_answers.specs.declared.error.LineError.TheVariants.{Malformed}

@@ -89,22 +89,22 @@ impl Tally {
     }
 
     // With a line and what its call came to, if the line is in the layout. A difference is shown.
-    pub fn added<E: Placed + Drop>(mut self, rt: &impl Print, called: Option<Called<E>>) -> Self
+    pub fn added<E: Placed + Drop>(self, rt: &impl Print, called: Option<Called<E>>) -> Self
         ensures { counts_of result ≡ answered E.place_of called (counts_of self) }
     {
-        self.lines = self.lines.saturating_add(1);
-        self.answers = self.answers.saturating_add(1);
+        let mut tally = self.skipped();
+        tally.answers = tally.answers.saturating_add(1);
         let mut same = false;
         if let Some(called) = called {
             same = called.same;
-            self = self.replied(called.entry.place(), refusal::number(called.outcome));
+            tally = tally.replied(called.entry.place(), refusal::number(called.outcome));
         }
         if !same {
-            self.differ = self.differ.saturating_add(1);
-            let lines = self.lines;
+            tally.differ = tally.differ.saturating_add(1);
+            let lines = tally.lines;
             let _ = println!(rt; "line {lines} differs");
         }
-        self
+        tally
     }
 
     // The counts of one entry, of the replies that were met.

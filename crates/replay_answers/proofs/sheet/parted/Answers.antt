@@ -1,5 +1,5 @@
 -- `replay_answers::sheet::parted` meets its contract.
-use Rattle.std.proofs.Common.{◌≡◌, ◌≤◌, ◌+◌, ◌-◌, Some, None, length, drop, ap, sym, ◌∙◌, arith, rules, tests, eqb, length-drop, refl}
+use Rattle.std.proofs.Common.{◌≡◌, ◌≤◌, ◌+◌, ◌-◌, Some, None, length, drop, sym, ◌∙◌, arith, rules, tests, eqb, length-drop, refl}
 use Rattle.std.proofs.lemmas.Iterator.{YieldsList-from_slice}
 use Rattle.std.proofs.lemmas.Iterator.Search.{position_from_yields_List}
 use Rattle.std.proofs.lemmas.Result.{err_from_is_err_and}

@@ -1,5 +1,5 @@
 -- `replay_answers::sheet::put_words` meets its contract.
-use Rattle.std.proofs.Common.{◌≡◌, ℕ, List, ◌∷◌, ◌++◌, ◌+◌, ◌*◌, ◌==◌, false, ◌<◌, ◌≤◌, refl, length, sym, ap, ◌∙◌, eqb, [], arith, rules, tests, length-append}
+use Rattle.std.proofs.Common.{◌≡◌, ℕ, List, ◌∷◌, ◌++◌, ◌+◌, ◌*◌, ◌==◌, false, ◌<◌, ◌≤◌, refl, length, sym, ◌∙◌, eqb, [], arith, rules, tests}
 use Rattle.std.proofs.lemmas.Iterator.Splits.{YieldsList-from_slice_split}
 use Rattle.std.proofs.lemmas.Iterator.Consumers.{YieldsList-turn, YieldsList-end}
 use Rattle.std.proofs.lemmas.List.{length_push, at_drop_all}

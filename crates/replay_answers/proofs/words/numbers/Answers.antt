@@ -1,5 +1,5 @@
 -- `replay_answers::words::numbers` meets its contract.
-use Rattle.std.proofs.Common.{◌<◌, ◌≤◌, refl, length, sym, ap, ◌∙◌, eqb, lit≤, arith, length-append, rules, tests}
+use Rattle.std.proofs.Common.{◌≤◌, refl, length, sym, ap, ◌∙◌, eqb, lit≤, arith, length-append, rules, tests}
 use Rattle.std.proofs.lemmas.Iterator.Splits.{YieldsList-from_slice_split}
 use Rattle.std.proofs.lemmas.Iterator.Consumers.{YieldsList-turn, YieldsList-end}
 use Rattle.std.proofs.lemmas.List.{length_push, at_drop_all}
