@@ -1,5 +1,5 @@
 -- The rates that a line keeps. Definitions only.
-use Rattle.std.specs.Prelude.{ℕ, ◌/◌, ◌%◌, ◌&&◌, ltb, List, map, filter, take, Float}
+use Rattle.std.specs.Prelude.{◌/◌, ◌%◌, ◌&&◌, ltb, List, map, filter, take, Float}
 use Rattle.std.specs.List.{enumerate_from}
 use Rattle.linear_pk.specs.declared.kernel.LinearPk.{LinearPk}
 use Rattle.linear_pk.specs.LinearPk.{state_count}

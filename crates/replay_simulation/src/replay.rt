@@ -1,5 +1,5 @@
 // One line: a run of the library, and the answer that it must give.
-ghost use Rattle.std.specs.Prelude.{◌≤◌, length};
+ghost use Rattle.std.specs.Prelude.{◌≡◌, ◌+◌, ◌*◌, ◌/◌, ◌≤◌, length};
 ghost use Rattle.arrayvec.specs.ArrayVec.{array_vec_len};
 
 use crate::cells::{Expected, Lent};
@@ -64,13 +64,17 @@ impl<'a> Run<'a> {
     }
 
     fn events(&self) -> usize
-        ensures { result ≤ 6 }
+        ensures count { result ≡ length self.now.events.now / 6 }
+        ensures within { result ≤ 6 }
     {
         self.events.len() / EVENT_SIZE
     }
 
     // The rows that the slices must have room for.
-    fn reckoned(&self) -> usize {
+    fn reckoned(&self) -> usize
+        ensures count { result ≡ 4 * (length self.now.events.now / 6) + array_vec_len self.now.samples + 2 }
+        ensures within { result ≤ 31 }
+    {
         4 * self.events() + self.samples.len() + 2
     }
 
