@@ -1,6 +1,5 @@
 // What programs that replay stored answers share: the loop over the lines, the numbers of a line and what they stand for, a line's sheet, the
-// counts of what the calls replied. Nothing here allocates. That the calls succeed, the replays of the stored answers show: `numbers`,
-// `doubles` and `Parameters::read` in `replay_linear_pk`, `Sheet::read` in `replay_sheets`, and `replay_lines` in each.
+// counts of what the calls replied. Nothing here allocates.
 #![tactic(auto)]
 
 mod error;

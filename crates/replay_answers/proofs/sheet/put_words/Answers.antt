@@ -1,5 +1,6 @@
 -- `replay_answers::sheet::put_words` meets its contract.
 use Rattle.std.proofs.Common.{◌≡◌, ℕ, List, ◌∷◌, ◌++◌, ◌+◌, ◌*◌, ◌==◌, false, ◌<◌, ◌≤◌, refl, length, sym, ◌∙◌, eqb, [], arith, rules, tests}
+use Rattle.std.specs.Int.{w64, to_le_bytes}
 use Rattle.std.proofs.lemmas.Iterator.Splits.{YieldsList-from_slice_split}
 use Rattle.std.proofs.lemmas.Iterator.Consumers.{YieldsList-turn, YieldsList-end}
 use Rattle.std.proofs.lemmas.List.{length_push, at_drop_all}
@@ -33,7 +34,7 @@ returns-then-is_err c =
     let i = c.loop-word.invariant in
     let e = sym i.1 ∙ behind_more i.0 _ _ _ _ t c.in_ok-number.ensures in
     let n : length c.loop-word.bytes.items ≡ 8 * length i.0 = rw i.2 (length-bytes_of i.0) in
-    let many : 65544 < length c.loop-word.bytes.items + 8 = grind (arith, c.try_extend_from_slice.ensures.variant, c.if-is_err.ensures.value, c.to_le_bytes-word.ensures) in
+    let many : 65544 < length c.loop-word.bytes.items + 8 = grind (arith, c.try_extend_from_slice.ensures.variant, c.if-is_err.ensures.value) in
     let full : 8193 < length (i.0 ++ c.in_ok-number.field-0 ∷ []) = omega (arith, many, n, length_push i.0 c.in_ok-number.field-0) in
     (refl, rw (not_empty c.args.text.now c.if-is_empty.ensures, e) (more_behind 8193 _ _ full))
 
@@ -54,8 +55,9 @@ loop-word-preserved c =
         length_push c.loop-word.yielded c.in-Some.word,
         ← behind_more i.0 _ _ _ _ t c.in_ok-number.ensures,
       ) i.1,
-      (let ok : c.try_extend_from_slice.new.self.items ≡ c.loop-word.bytes.items ++ c.to_le_bytes-word.result = grind (arith, c.try_extend_from_slice.ensures.ok, c.if-is_err.ensures.value) in
-          rw (ok, i.2, c.to_le_bytes-word.ensures) (bytes_of_more i.0 c.in_ok-number.field-0)),
+      (let ok : c.try_extend_from_slice.new.self.items ≡ c.loop-word.bytes.items ++ to_le_bytes w64 c.in_ok-number.field-0 =
+          grind (arith, c.try_extend_from_slice.ensures.ok, c.if-is_err.ensures.value) in
+          rw (ok, i.2) (bytes_of_more i.0 c.in_ok-number.field-0)),
       rw i.3 (sym (length_push i.0 c.in_ok-number.field-0)),
     )
 
