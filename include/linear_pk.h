@@ -7,8 +7,8 @@
  * Its code is for x86-64 with SSE4.2 (x86-64-v2), for which it does not test.
  * It needs no heap, and of other libraries the C library's memcpy and memset alone.
  * Of stack rig_steady_sheet takes 80 KiB, linear_pk_periodic_steady_state 78 KiB,
- * rig_run_sheet 61 KiB, linear_pk_simulate 31 KiB, linear_pk_normalize_periodic_cycle
- * 24 KiB, every other function 4 KiB at most.
+ * rig_run_sheet 54 KiB, linear_pk_simulate 31 KiB, linear_pk_normalize_periodic_cycle
+ * 24 KiB, every other function 5 KiB at most.
  *
  * States are the depot (if there is one), central, then the peripherals:
  * n is 1 to 4. Amounts, volumes and times are in one coherent set of units.
