@@ -14,7 +14,7 @@ use limits::{BLOCK, RATE_CELLS};
 use refusal::Refusal;
 
 // The values from the front of out; the cells behind them stay.
-// By C: `copy_from_slice` becomes a call of `memmove` in the archive, which asks of the C library what it did not.
+// By C: `copy_from_slice` becomes a call of `memmove`; the archive asks the C library for `memcpy` and `memset` alone.
 pub fn lay(values: &[f64], out: &mut [f64])
     requires { length values.now ≤ length out.old }
     ensures { out.new ≡ values.now ++ drop (length values.now) out.old }
