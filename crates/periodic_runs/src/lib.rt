@@ -1,7 +1,8 @@
 // The inner runs of a closed cycle, from amounts at the start to those of the last post row, and the columns of the unit amounts.
 #![tactic(auto)]
 
-ghost use Rattle.std.specs.Prelude.{◌≡◌, length, take};
+ghost use Rattle.std.specs.Prelude.{◌≡◌, ◌≤◌, ◌+◌, ◌*◌, length, take};
+ghost use Rattle.limits.specs.Limits.{states, cycle_values};
 ghost use Rattle.binary64.specs.Doubles.{plus_zero};
 ghost use Rattle.simulation.specs.KernelRun.{propagator_of};
 ghost use Rattle.cycle.specs.Closed.{last_of, homogeneous as homogeneousOf, columns_to};
@@ -13,6 +14,13 @@ use linear_pk::LinearPk;
 use protocol::{Event, EventList, Window};
 use refusal::Refusal;
 use rows::{Rows, Stopped};
+
+// A list of few events has few cells for the rows of its run, since every run clears all of its own.
+const FEW_EVENTS: usize = 16;
+
+const FEW_ROWS: usize = 4 * FEW_EVENTS + 2;
+
+const FEW_VALUES: usize = FEW_ROWS * STATES;
 
 // A refusal, and the time at which it stops a closed cycle.
 #[derive(Clone, Copy, Debug, PartialEq)]
@@ -52,15 +60,31 @@ pub struct PreparedCycle<'a> {
 }
 
 impl PreparedCycle<'_> {
-    // The run from the first n amounts, on the divided budgets, to the last post row. A call of its own, so that the rows lie in one place.
-    #[inline(never)]
+    // The run from the first n amounts, on the divided budgets, to the last post row.
     pub fn last_of(&self, initial: [f64; STATES]) -> Result<[f64; STATES], Stop>
         ensures { timed_with (take self.now.n) result
             ≡ last_of (propagator_of self.now.kernel) self.now.n self.now.window self.now.events.now (take self.now.n initial) }
     {
-        let mut times = [0.0f64; CYCLE_ROWS];
-        let mut sides = [0u8; CYCLE_ROWS];
-        let mut values = [0.0f64; CYCLE_VALUES];
+        if self.events.len() <= FEW_EVENTS {
+            self.last_in::<FEW_ROWS, FEW_VALUES>(initial)
+        } else {
+            self.last_in::<CYCLE_ROWS, CYCLE_VALUES>(initial)
+        }
+    }
+
+    // The same, with this many cells for its rows. A call of its own, so that the rows lie in one place.
+    #[inline(never)]
+    fn last_in<const ROWS: usize, const VALUES: usize>(
+        &self,
+        initial: [f64; STATES],
+    ) -> Result<[f64; STATES], Stop>
+        requires { (4 * length self.now.events.now + 2 ≤ ROWS) × (ROWS * states ≤ VALUES) × (VALUES ≤ cycle_values) }
+        ensures { timed_with (take self.now.n) result
+            ≡ last_of (propagator_of self.now.kernel) self.now.n self.now.window self.now.events.now (take self.now.n initial) }
+    {
+        let mut times = [0.0f64; ROWS];
+        let mut sides = [0u8; ROWS];
+        let mut values = [0.0f64; VALUES];
         let mut rows = Rows {
             times: &mut times,
             sides: &mut sides,
