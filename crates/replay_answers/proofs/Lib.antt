@@ -1,4 +1,5 @@
 pub mod Exits
 pub mod Behind
 pub mod Steps
+pub mod PlacedSteps
 pub mod Sheets

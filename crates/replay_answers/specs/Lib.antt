@@ -1,5 +1,6 @@
 pub mod Outcomes
 pub mod Parameters
+pub mod Placed
 pub mod Sheet
 pub mod Tally
 pub mod Words

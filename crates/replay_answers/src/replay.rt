@@ -1,71 +1,74 @@
-// The lines of standard input, and the loop over them.
-ghost use Rattle.std.specs.Prelude.{◌≡◌, List, length};
+// The lines of standard input, of any length and in any number, and the loop over them.
+ghost use Rattle.std.specs.Prelude.{◌≡◌, List, IfOk};
 ghost use Rattle.std.specs.List.{FoldsTo};
 ghost use Rattle.std.specs.Iterator.{IsFinite, Drains};
 ghost use Rattle.std.specs.Fn.{FnReturnsAt};
-ghost use Rattle.replay_answers.specs.Tally.{counts_of, no_counts, is_comment as is_comment_of, Counted};
+ghost use Rattle.replay_answers.specs.Tally.{counts_of, no_counts, CameTo, Counted};
 
 use crate::LineError;
-use crate::tally::{Called, Placed, Tally};
+use crate::entry_tally::EntryTally;
+use crate::tally::Called;
+use std::alloc::{AllocError, Global};
+use std::fmt::Display;
+use std::io;
+use std::io::{BufRead, BufReader};
 
-const INPUT: usize = 262144;
-
-// Room for standard input. Input that fills it is cut, so that answers are missing.
-pub fn room() -> [u8; INPUT]
-    ensures { 262144 ≡ length result }
+// What a line comes to; none where it is not in the layout.
+fn called<E, F>(call: &F, line: &[u8]) -> Result<Option<Called<E>>, AllocError>
+where
+    F: Fn(&str) -> Result<Called<E>, LineError>,
+    requires { F.IsAlwaysCallable call.now }
+    ensures { IfOk result (λ called. CameTo (λ text r. FnReturnsAt F.Fn call.now text r) line.now called) }
 {
-    [0; INPUT]
-}
-
-// A line that starts with '#'.
-pub fn is_comment(line: &[u8]) -> bool
-    ensures { result ≡ is_comment_of line.now }
-{
-    line.starts_with(b"#")
+    let called = match str::from_utf8(line) {
+        Ok(text) => call(text),
+        Err(_) => Err(LineError::Malformed),
+    };
+    match called {
+        Ok(called) => Ok(Some(called)),
+        Err(LineError::Malformed) => Ok(None),
+        Err(LineError::OutOfMemory) => Err(AllocError),
+    }
 }
 
 // What the calls of the lines came to, of each that does not start with '#'.
-pub fn replay_lines<'a, E, R, I, F>(rt: &R, lines: I, call: F) -> Tally
+pub fn replay_lines<E, R, I, F>(rt: &R, lines: I, call: F) -> Result<EntryTally<E>, AllocError>
 where
-    E: Placed + Drop,
-    R: Print,
-    I: Iterator<Item = &'a [u8]> + Drop,
-    F: Fn(&[u8]) -> Result<Called<E>, LineError> + Drop,
+    E: Ord + Display + Drop,
+    R: Print + AllocGlobal,
+    I: Iterator<Item = Vec<u8>> + Drop,
+    F: Fn(&str) -> Result<Called<E>, LineError> + Drop,
     requires call { F.IsAlwaysCallable call }
     requires can { I.can_next lines }
     requires ends { IsFinite (I.remaining lines) }
-    ensures { (read : List _) × Drains I.next_gives lines read
-        × FoldsTo (λ a line b. Counted E.place_of (λ text r. FnReturnsAt F.Fn call text r) a line.now b) no_counts read (counts_of result) }
+    ensures { IfOk result (λ tally. (read : List _) × Drains I.next_gives lines read
+        × FoldsTo (λ a line b. Counted (λ text r. FnReturnsAt F.Fn call text r) a line.items b) no_counts read (counts_of tally)) }
 {
-    let mut tally = Tally::new();
+    let mut tally = EntryTally::new(rt.alloc());
     for line in lines {
-        tally = if is_comment(line) {
-            tally.skipped()
+        if line.starts_with(b"#") {
+            tally.skip();
         } else {
-            tally.added(rt, call(line).ok())
-        };
+            tally.add(rt, called(&call, line.as_slice())?)?;
+        }
     }
-    tally
+    Ok(tally)
 }
 
-// Replays the lines of standard input, and prints what the calls came to, entry by entry. A read that fails counts as the end. No clause can
-// say what standard input gives or what standard output takes; `replay_lines` says what the lines come to.
-pub fn replay_main<E, R, F>(rt: &R, entries: &[E], call: F)
+// Replays the lines of standard input, and prints what the calls came to. A read that fails counts as the end. No clause can say what
+// standard input gives or what standard output takes; `replay_lines` says what the lines come to.
+pub fn replay_main<E, R, F>(rt: &R, entry: F) -> io::Result<()>
 where
-    E: Placed + Drop,
-    R: Input + Print,
-    F: Fn(&[u8]) -> Result<Called<E>, LineError> + Drop,
-    requires { F.IsAlwaysCallable call }
+    E: Ord + Display + Drop,
+    R: Input + Print + AllocGlobal,
+    F: Fn(Global, &str) -> Result<Called<E>, LineError> + Drop,
+    requires { F.IsAlwaysCallable entry }
 {
-    let mut input = room();
-    let n = rig_streams::read_full(&mut rt.reader(), &mut input);
-    // No line stands behind a last line feed.
-    let lines = input[..n]
-        .split_inclusive(|byte| *byte == b'\n')
-        .map(|line| line.strip_suffix(b"\n").unwrap_or(line));
-    let tally = replay_lines(rt, lines, call);
-    for entry in entries {
-        tally.print_entry(rt, entry);
-    }
-    tally.print_total(rt);
+    let alloc = rt.alloc();
+    let lines = BufReader::new(alloc, rt.reader())?
+        .split(alloc, b'\n')
+        .map_while(Result::ok);
+    let tally = replay_lines(rt, lines, |line| entry(alloc, line))?;
+    tally.print(rt);
+    Ok(())
 }

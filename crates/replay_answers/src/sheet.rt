@@ -1,81 +1,77 @@
 // The parts of a line, with a semicolon between two: how many bytes the sheet has, the printout's number, the sheet's words, the printout.
-ghost use Rattle.std.specs.Prelude.{◌≡◌, ◌<◌, ◌≤◌, ℕ, List, Some, length, IfSome, MatchResult};
-ghost use Rattle.replay_answers.specs.declared.error.LineError.TheVariants.{Malformed};
-ghost use Rattle.replay_answers.specs.Outcomes.{Gives};
+ghost use Rattle.std.specs.Prelude.{◌≡◌, ◌≤◌, vec_len, IfOk, IfErr};
+ghost use Rattle.replay_answers.specs.declared.error.LineError.TheVariants.{OutOfMemory};
+ghost use Rattle.replay_answers.specs.Outcomes.{Gives, GivesInMemory};
 ghost use Rattle.replay_answers.specs.Sheet.{parted_of, bytes_of as bytes_of_words, sheet_words as sheet_words_of, sheet_of};
 
 use crate::LineError;
-use crate::words::number;
-use arrayvec::ArrayVec;
-use limits::SHEET_BYTES;
+use crate::kept_sheet::SHEET;
+use crate::words::{number, numbers};
+use std::alloc::Global;
 
 // The most bytes of a line's sheet: one word more than a sheet has.
-pub const SHEET: usize = SHEET_BYTES + 8;
+pub const SHEET_ROOM: usize = SHEET;
 
-pub type SheetBytes = ArrayVec<u8, SHEET>;
-
-#[derive(Clone, Copy)]
+#[derive(Drop)]
 pub struct Sheet<'a> {
-    pub bytes: &'a [u8],
+    pub bytes: Vec<u8>,
     // By number: a line stores a reply so.
     pub number: u64,
-    pub printout: &'a [u8],
-    ghost within: { length bytes.now ≤ 65544 },
+    pub printout: &'a str,
+    ghost within: { vec_len bytes ≤ 65544 },
 }
 
 // What stands before and behind the first semicolon.
 #[tactic(auto, unfolding(crate::specs::Sheet::parted_of))]
-fn parted(text: &[u8]) -> Result<(&[u8], &[u8]), LineError>
+fn parted(text: &str) -> Result<(&str, &str), LineError>
     ensures { Gives (λ parts. (parts.0.now, parts.1.now)) result (parted_of text.now) }
 {
-    let at = text
-        .iter()
-        .position(|byte| *byte == b';')
-        .ok_or(LineError::Malformed)?;
-    Ok((&text[..at], &text[at + 1..]))
+    text.split_once(';').ok_or(LineError::Malformed)
 }
 
-// Puts the bytes of a text's numbers, low ones first, of which an empty text has none; how many numbers there are.
+// The numbers of a text, of which an empty one has none.
 #[tactic(auto, unfolding(crate::specs::Sheet::sheet_words))]
-fn put_words(text: &[u8], bytes: &mut SheetBytes) -> Result<usize, LineError>
-    ensures { MatchResult result (λ count. (words : List ℕ) × (sheet_words_of text.now ≡ Some words) × (count ≡ length words)
-        × (bytes.new.items ≡ bytes_of_words words))
-        (λ e. (e ≡ Malformed) × IfSome (sheet_words_of text.now) (λ words. 8193 < length words)) }
+fn sheet_words(alloc: Global, text: &str) -> Result<Vec<u64>, LineError>
+    ensures { GivesInMemory (λ list. list.items) result (sheet_words_of text.now) }
 {
-    bytes.clear();
-    let mut count = 0;
     if text.is_empty() {
-        return Ok(count);
+        Ok(Vec::new(alloc))
+    } else {
+        numbers(alloc, text)
     }
-    for word in text.split(|byte| *byte == b' ') {
-        let word = number(word)?.to_le_bytes();
-        if bytes.try_extend_from_slice(&word).is_err() {
-            return Err(LineError::Malformed);
-        }
-        count += 1;
+}
+
+// The bytes of words, low ones first.
+fn bytes_of(alloc: Global, words: &[u64]) -> Result<Vec<u8>, LineError>
+    ensures items { IfOk result (λ bytes. bytes.items ≡ bytes_of_words words.now) }
+    ensures memory { IfErr result (λ e. e ≡ OutOfMemory) }
+{
+    let mut bytes = Vec::new(alloc);
+    for word in words {
+        bytes.extend_from_slice(&word.to_le_bytes())?;
     }
-    Ok(count)
+    Ok(bytes)
 }
 
 impl<'a> Sheet<'a> {
-    // The sheet's bytes stand in the lent room.
     #[tactic(auto, using(crate::proofs::Exits::err_from_is_err_and), unfolding(crate::specs::Sheet::sheet_of))]
-    pub fn read(line: &'a [u8], bytes: &'a mut SheetBytes) -> Result<Self, LineError>
-        ensures { Gives (λ sheet. (sheet.bytes.now, sheet.number, sheet.printout.now)) result (sheet_of line.now) }
+    pub fn read(alloc: Global, line: &'a str) -> Result<Self, LineError>
+        ensures { GivesInMemory (λ sheet. (sheet.bytes.items, sheet.number, sheet.printout.now)) result (sheet_of line.now) }
     {
         let (length, rest) = parted(line)?;
         let (reply, rest) = parted(rest)?;
         let (words, printout) = parted(rest)?;
-        let length = number(length)? as usize;
-        let number = number(reply)?;
-        let count = put_words(words, bytes)?;
+        let length = number(length.as_bytes())? as usize;
+        let number = number(reply.as_bytes())?;
+        let words = sheet_words(alloc, words)?;
         // The last word is not always whole.
-        if length > SHEET || count != length.div_ceil(8) {
+        if length > SHEET_ROOM || words.len() != length.div_ceil(8) {
             return Err(LineError::Malformed);
         }
+        let mut bytes = bytes_of(alloc, words.as_slice())?;
         bytes.truncate(length);
         Ok(Sheet {
-            bytes: bytes.as_slice(),
+            bytes,
             number,
             printout,
         })

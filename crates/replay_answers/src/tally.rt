@@ -1,7 +1,7 @@
 // How often each entry gave each reply, and how many answers differ. A write that fails is passed over.
 ghost use Rattle.std.specs.Prelude.{◌≡◌, ℕ, ◌==◌, ◌&&◌};
 ghost use Rattle.refusal.specs.Numbers.{reply_number};
-ghost use Rattle.replay_answers.specs.Tally.{counts_of, no_counts, skipped, answered, replied};
+ghost use Rattle.replay_answers.specs.Placed.{placed_counts_of, no_placed_counts, placed_skipped, placed_answered, replied};
 
 use refusal::Refusal;
 use std::fmt::Display;
@@ -55,7 +55,7 @@ pub struct Tally {
 
 impl Tally {
     pub fn new() -> Self
-        ensures { counts_of result ≡ no_counts }
+        ensures { placed_counts_of result ≡ no_placed_counts }
     {
         Tally {
             counts: [0; COUNTS],
@@ -66,7 +66,7 @@ impl Tally {
     }
 
     // With a reply of an entry; a place or a number past the last is not counted.
-    #[tactic(auto, unfolding(crate::specs::Tally::replied))]
+    #[tactic(auto, unfolding(crate::specs::Placed::replied))]
     fn replied(mut self, place: usize, number: u64) -> Self
         ensures counts { result.counts ≡ replied place number self.counts }
         ensures lines { result.lines ≡ self.lines }
@@ -82,7 +82,7 @@ impl Tally {
 
     // With a line that is a comment.
     pub fn skipped(mut self) -> Self
-        ensures { counts_of result ≡ skipped (counts_of self) }
+        ensures { placed_counts_of result ≡ placed_skipped (placed_counts_of self) }
     {
         self.lines = self.lines.saturating_add(1);
         self
@@ -90,7 +90,7 @@ impl Tally {
 
     // With a line and what its call came to, if the line is in the layout. A difference is shown.
     pub fn added<E: Placed + Drop>(self, rt: &impl Print, called: Option<Called<E>>) -> Self
-        ensures { counts_of result ≡ answered E.place_of called (counts_of self) }
+        ensures { placed_counts_of result ≡ placed_answered E.place_of called (placed_counts_of self) }
     {
         let mut tally = self.skipped();
         tally.answers = tally.answers.saturating_add(1);

@@ -1,15 +1,15 @@
 // The numbers of a line, one space between two, and how they are read one behind the other.
-ghost use Rattle.std.specs.Prelude.{◌≡◌, ℕ, ◌≤◌, ◌<◌, ◌*◌, ◌^◌, ◌∷◌, ◌++◌, [], IfOk, IsOk, ◌↔◌, length, map, take};
+ghost use Rattle.std.specs.Prelude.{◌≡◌, ℕ, ◌≤◌, ◌<◌, ◌*◌, ◌^◌, ◌∷◌, ◌++◌, [], IfOk, IfErr, IsOk, ◌↔◌, length, map, vec_len};
 ghost use Rattle.std.specs.Float.{binary64};
 ghost use Rattle.std.specs.Float.Ieee.{of_bits};
 ghost use Rattle.replay_numbers.specs.Text.{number_of};
-ghost use Rattle.replay_answers.specs.declared.error.LineError.TheVariants.{Malformed};
-ghost use Rattle.replay_answers.specs.Outcomes.{Gives};
-ghost use Rattle.replay_answers.specs.Words.{kept_numbers, word_of, words_of, double_of, at_most as at_most_of, list_of, items_of, window_of};
+ghost use Rattle.replay_answers.specs.declared.error.LineError.TheVariants.{Malformed, OutOfMemory};
+ghost use Rattle.replay_answers.specs.Outcomes.{Gives, GivesInMemory};
+ghost use Rattle.replay_answers.specs.Words.{line_numbers, word_of, words_of, double_of, at_most as at_most_of, list_of, items_of, window_of};
 
 use crate::LineError;
-use arrayvec::ArrayVec;
 use protocol::Window;
+use std::alloc::Global;
 
 // By name: a word that spells no number is refused at one place.
 pub fn number(word: &[u8]) -> Result<u64, LineError>
@@ -18,22 +18,13 @@ pub fn number(word: &[u8]) -> Result<u64, LineError>
     replay_numbers::number(word).ok_or(LineError::Malformed)
 }
 
-// The most numbers that a line has.
-pub const ROOM: usize = 256;
-
-pub type Numbers = ArrayVec<u64, ROOM>;
-
-// The numbers of a line, one space between two. A line with more than ROOM is refused.
-pub fn numbers(line: &[u8]) -> Result<Numbers, LineError>
-    ensures { Gives (λ list. list.items) result (kept_numbers 256 line.now) }
+// The numbers of a line, one space between two.
+pub fn numbers(alloc: Global, line: &str) -> Result<Vec<u64>, LineError>
+    ensures { GivesInMemory (λ list. list.items) result (line_numbers line.now) }
 {
-    let mut numbers = Numbers::new();
-    for word in line.split(|byte| *byte == b' ') {
-        let number = number(word)?;
-        if numbers.is_full() {
-            return Err(LineError::Malformed);
-        }
-        numbers.push(number);
+    let mut numbers = Vec::new(alloc);
+    for word in line.split(' ') {
+        numbers.push(number(word.as_bytes())?)?;
     }
     Ok(numbers)
 }
@@ -149,14 +140,15 @@ impl<'a> Words<'a> {
     }
 }
 
-// The doubles of patterns, of as many as there is room for.
-pub fn doubles<const N: usize>(patterns: &[u64]) -> ArrayVec<f64, N>
-    ensures { result.items ≡ map (of_bits binary64) (take N patterns.now) }
+// The doubles of patterns.
+pub fn doubles(alloc: Global, patterns: &[u64]) -> Result<Vec<f64>, LineError>
+    ensures items { IfOk result (λ list. list.items ≡ map (of_bits binary64) patterns.now) }
+    ensures len { IfOk result (λ list. vec_len list ≡ length patterns.now) }
+    ensures memory { IfErr result (λ e. e ≡ OutOfMemory) }
 {
-    let patterns = &patterns[..patterns.len().min(N)];
-    let mut list = ArrayVec::new();
-    for bits in patterns {
-        list.push(binary64_bits::of_bits(*bits));
-    }
-    list
+    let list = patterns
+        .iter()
+        .map(|bits| binary64_bits::of_bits(*bits))
+        .collect(alloc)?;
+    Ok(list)
 }

@@ -7,5 +7,5 @@ mod replay;
 use replay::Fold;
 
 fn main(rt: HostRuntime) {
-    replay_answers::replay_main(&rt, &[Fold], replay::replay);
+    replay_answers::replay_entries(&rt, &[Fold], replay::replay);
 }

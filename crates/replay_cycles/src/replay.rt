@@ -2,7 +2,9 @@
 use arrayvec::ArrayVec;
 use limits::EVENT_SIZE;
 use protocol::Window;
-use replay_answers::{Called, LineError, Parameters, Placed, Words, doubles, numbers};
+use replay_answers::{
+    Called, KeptParameters, LineError, NoCall, Placed, Words, kept_doubles, kept_numbers,
+};
 use std::fmt;
 
 // The most volumes, exchanges, events, samples and pieces of a line.
@@ -41,7 +43,7 @@ impl fmt::Display for Fold {
 // The arguments of a fold; an event is its words.
 #[derive(Drop)]
 struct Cycle<'a> {
-    parameters: Parameters<VOLUMES, EXCHANGES>,
+    parameters: KeptParameters<VOLUMES, EXCHANGES>,
     window: Window,
     events: &'a [u64],
     samples: ArrayVec<f64, SAMPLES>,
@@ -50,16 +52,16 @@ struct Cycle<'a> {
 impl<'a> Cycle<'a> {
     fn read(words: &mut Words<'a>) -> Result<Self, LineError> {
         Ok(Cycle {
-            parameters: Parameters::read(words)?,
+            parameters: KeptParameters::read(words)?,
             window: words.window()?,
             events: words.items(EVENTS, EVENT_SIZE)?,
-            samples: doubles(words.items(SAMPLES, 1)?),
+            samples: kept_doubles(words.items(SAMPLES, 1)?),
         })
     }
 }
 
-pub fn replay(line: &[u8]) -> Result<Called<Fold>, LineError> {
-    let numbers = numbers(line)?;
+pub fn replay(line: &[u8]) -> Result<Called<Fold>, NoCall> {
+    let numbers = kept_numbers(line)?;
     let mut words = Words::new(numbers.as_slice());
     let cycle = Cycle::read(&mut words)?;
     let stored = words.word()?;

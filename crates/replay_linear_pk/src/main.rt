@@ -8,5 +8,5 @@ use replay::Entry;
 
 fn main(rt: HostRuntime) {
     let entries = [Entry::New, Entry::Advance, Entry::Concentrations];
-    replay_answers::replay_main(&rt, &entries, replay::replay);
+    replay_answers::replay_entries(&rt, &entries, replay::replay);
 }

@@ -8,7 +8,9 @@ use arrayvec::ArrayVec;
 use limits::STATES;
 use linear_pk::LinearPk;
 use refusal::Refusal;
-use replay_answers::{Called, LineError, Parameters, Placed, Words, doubles, numbers};
+use replay_answers::{
+    Called, KeptParameters, LineError, NoCall, Placed, Words, kept_doubles, kept_numbers,
+};
 use replay_numbers::all_same;
 use std::fmt;
 
@@ -66,7 +68,7 @@ impl fmt::Display for Entry {
 // The arguments of a call; `cells` is the length of the lent result.
 #[derive(Drop)]
 struct Arguments {
-    parameters: Parameters<VOLUMES, VOLUMES>,
+    parameters: KeptParameters<VOLUMES, VOLUMES>,
     amounts: ArrayVec<f64, AMOUNTS>,
     rates: ArrayVec<f64, AMOUNTS>,
     duration: f64,
@@ -76,9 +78,9 @@ struct Arguments {
 impl Arguments {
     fn read(words: &mut Words<'_>) -> Result<Self, LineError> {
         Ok(Arguments {
-            parameters: Parameters::read(words)?,
-            amounts: doubles(words.list(AMOUNTS)?),
-            rates: doubles(words.list(AMOUNTS)?),
+            parameters: KeptParameters::read(words)?,
+            amounts: kept_doubles(words.list(AMOUNTS)?),
+            rates: kept_doubles(words.list(AMOUNTS)?),
             duration: words.double()?,
             cells: words.at_most(PREFILLED.len())?,
         })
@@ -140,8 +142,8 @@ fn rates_of(kernel: LinearPk) -> Cells
     cells
 }
 
-pub fn replay(line: &[u8]) -> Result<Called<Entry>, LineError> {
-    let numbers = numbers(line)?;
+pub fn replay(line: &[u8]) -> Result<Called<Entry>, NoCall> {
+    let numbers = kept_numbers(line)?;
     let mut words = Words::new(numbers.as_slice());
     let entry = Entry::try_from(words.word()?)?;
     let arguments = Arguments::read(&mut words)?;

@@ -4,7 +4,7 @@ ghost use Rattle.replay_sheets.specs.Places.{place_of};
 
 use printout::PrintReply;
 use refusal::Refusal;
-use replay_answers::{Called, LineError, Placed, Sheet, SheetBytes};
+use replay_answers::{Called, KeptSheet, NoCall, Placed, SheetBytes};
 use std::fmt;
 
 // The longest printout of a line.
@@ -39,7 +39,7 @@ impl fmt::Display for Entry {
 // Whether a call with one cell too few, `length`, refuses and leaves all cells: with 4 in place of an answer.
 fn is_refused<F: Fn(&[u8], &mut [u8]) -> PrintReply>(
     print: &F,
-    sheet: Sheet<'_>,
+    sheet: KeptSheet<'_>,
     length: usize,
 ) -> bool
     requires call { F.IsAlwaysCallable print.now }
@@ -65,13 +65,13 @@ fn written(byte: u8) -> u8 {
 fn called<F: Fn(&[u8], &mut [u8]) -> PrintReply + Drop>(
     entry: Entry,
     print: F,
-    sheet: Sheet<'_>,
-) -> Result<Called<Entry>, LineError>
+    sheet: KeptSheet<'_>,
+) -> Result<Called<Entry>, NoCall>
     requires { F.IsAlwaysCallable print }
 {
     let text = sheet.printout;
     if text.is_empty() || text.len() > TEXT {
-        return Err(LineError::Malformed);
+        return Err(NoCall);
     }
     let refused = is_refused(&print, sheet, text.len() - 1);
     let mut cells = [CELL; TEXT];
@@ -86,18 +86,18 @@ fn called<F: Fn(&[u8], &mut [u8]) -> PrintReply + Drop>(
 }
 
 // A line that starts with an s is one for `steady_sheet`.
-pub fn replay(line: &[u8]) -> Result<Called<Entry>, LineError> {
+pub fn replay(line: &[u8]) -> Result<Called<Entry>, NoCall> {
     let mut bytes = SheetBytes::new();
     match line.strip_prefix(b"s") {
         Some(rest) => called(
             Entry::SteadySheet,
             rig_steady_sheet::steady_sheet,
-            Sheet::read(rest, &mut bytes)?,
+            KeptSheet::read(rest, &mut bytes)?,
         ),
         None => called(
             Entry::RunSheet,
             rig_run_printout::run_sheet,
-            Sheet::read(line, &mut bytes)?,
+            KeptSheet::read(line, &mut bytes)?,
         ),
     }
 }

@@ -8,5 +8,5 @@ mod replay;
 use replay::Simulate;
 
 fn main(rt: HostRuntime) {
-    replay_answers::replay_main(&rt, &[Simulate], replay::replay);
+    replay_answers::replay_entries(&rt, &[Simulate], replay::replay);
 }

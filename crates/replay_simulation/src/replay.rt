@@ -7,7 +7,9 @@ use arrayvec::ArrayVec;
 use limits::EVENT_SIZE;
 use protocol::Window;
 use refusal::Refusal;
-use replay_answers::{Called, LineError, Parameters, Placed, Words, doubles, numbers};
+use replay_answers::{
+    Called, KeptParameters, LineError, NoCall, Placed, Words, kept_doubles, kept_numbers,
+};
 use replay_numbers::same;
 use simulation_report::{Reached, Report, RunError};
 use std::fmt;
@@ -43,7 +45,7 @@ impl fmt::Display for Simulate {
 // The arguments of a run; an event is its words.
 #[derive(Drop)]
 struct Run<'a> {
-    parameters: Parameters<VOLUMES, EXCHANGES>,
+    parameters: KeptParameters<VOLUMES, EXCHANGES>,
     amounts: ArrayVec<f64, AMOUNTS>,
     window: Window,
     events: &'a [u64],
@@ -55,11 +57,11 @@ struct Run<'a> {
 impl<'a> Run<'a> {
     fn read(words: &mut Words<'a>) -> Result<Self, LineError> {
         Ok(Run {
-            parameters: Parameters::read(words)?,
-            amounts: doubles(words.list(AMOUNTS)?),
+            parameters: KeptParameters::read(words)?,
+            amounts: kept_doubles(words.list(AMOUNTS)?),
             window: words.window()?,
             events: words.items(EVENTS, EVENT_SIZE)?,
-            samples: doubles(words.items(SAMPLES, 1)?),
+            samples: kept_doubles(words.items(SAMPLES, 1)?),
         })
     }
 
@@ -140,8 +142,8 @@ impl<'a> Stored<'a> {
     }
 }
 
-pub fn replay(line: &[u8]) -> Result<Called<Simulate>, LineError> {
-    let numbers = numbers(line)?;
+pub fn replay(line: &[u8]) -> Result<Called<Simulate>, NoCall> {
+    let numbers = kept_numbers(line)?;
     let mut words = Words::new(numbers.as_slice());
     let run = Run::read(&mut words)?;
     let n = run.parameters.state_count();

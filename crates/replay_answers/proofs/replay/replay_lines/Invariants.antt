@@ -6,4 +6,4 @@ use Rattle.replay_answers.proofs.replay.replay_lines.Given as goal
 
 abbrev pub invariant-loop-line : goal.invariant-loop-line
 invariant-loop-line g l =
-    FoldsTo (λ a line b. Counted g.E.Placed.place_of (λ text r. FnReturnsAt g.F.Fn l.call text r) a line.now b) no_counts l.yielded (counts_of l.tally)
+    FoldsTo (λ a line b. Counted (λ text r. FnReturnsAt g.F.Fn l.call text r) a line.items b) no_counts l.yielded (counts_of l.tally)

@@ -1,4 +1,4 @@
--- `replay_answers::sheet::parted` meets its contract.
+-- `replay_answers::kept_sheet::parted` meets its contract.
 use Rattle.std.proofs.Common.{◌≡◌, ◌≤◌, ◌+◌, ◌-◌, Some, None, length, drop, sym, ◌∙◌, arith, rules, tests, eqb, length-drop, refl}
 use Rattle.std.proofs.lemmas.Iterator.{YieldsList-from_slice}
 use Rattle.std.proofs.lemmas.Iterator.Search.{position_from_yields_List}
@@ -6,7 +6,7 @@ use Rattle.std.proofs.lemmas.Result.{err_from_is_err_and}
 use Rattle.std.proofs.lemmas.Option.{cond_some}
 use Rattle.std.proofs.lemmas.List.{take_all}
 use Rattle.replay_answers.specs.Sheet.{parted_of}
-use Rattle.replay_answers.proofs.sheet.parted.Goals as goal
+use Rattle.replay_answers.proofs.kept_sheet.parted.Goals as goal
 
 pub returns-in_err-at : goal.returns-in_err-at
 unfolding parted_of

@@ -1,4 +1,4 @@
--- `replay_answers::sheet::put_words` meets its contract.
+-- `replay_answers::kept_sheet::put_words` meets its contract.
 use Rattle.std.proofs.Common.{◌≡◌, ℕ, List, ◌∷◌, ◌++◌, ◌+◌, ◌*◌, ◌==◌, false, ◌<◌, ◌≤◌, refl, length, sym, ◌∙◌, eqb, [], arith, rules, tests}
 use Rattle.std.specs.Int.{w64, to_le_bytes}
 use Rattle.std.proofs.lemmas.Iterator.Splits.{YieldsList-from_slice_split}
@@ -8,7 +8,7 @@ use Rattle.std.proofs.lemmas.Result.{err_from_is_err_and}
 use Rattle.replay_answers.specs.Sheet.{sheet_words}
 use Rattle.replay_answers.proofs.Behind.{behind, behind_none_read, behind_all, behind_more, behind_stops}
 use Rattle.replay_answers.proofs.Sheets.{length-bytes_of, bytes_of_more, more_behind}
-use Rattle.replay_answers.proofs.sheet.put_words.Goals as goal
+use Rattle.replay_answers.proofs.kept_sheet.put_words.Goals as goal
 
 not_empty : (text : List ℕ) → false ≡ (length text == 0) → eqb (length text) 0 ≡ false
 not_empty text h = grind (arith, h)
