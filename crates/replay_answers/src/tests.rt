@@ -1,6 +1,6 @@
 // That the calls which need memory succeed, at lines and input longer than what is kept without a heap.
 use super::*;
-use std::alloc::{Allocator, Global};
+use std::alloc::{AllocError, AllocFailed, Allocator, Global};
 use std::cell::Cell;
 use std::fmt::Display;
 use std::io;
@@ -165,4 +165,14 @@ fn replays_input_of_any_length(rt: HostRuntime) -> Result<(), Fail> {
         "line 3 differs\nline 5 differs\n5 0: 1\n8 0: 2\n11 0: 1\n4 answers, 2 differ\n"
     );
     Ok(())
+}
+
+#[test]
+fn tells_memory_from_layout(rt: HostRuntime) {
+    assert_eq!(rt; LineError::from(AllocError), LineError::OutOfMemory);
+    assert_eq!(rt;
+        LineError::from(AllocFailed { value: 8u64 }),
+        LineError::OutOfMemory
+    );
+    assert_eq!(rt; NoCall::from(LineError::Malformed), NoCall);
 }
