@@ -1,4 +1,5 @@
--- The same counts, and how often each entry gave each reply, by the entry's place. Definitions only.
+-- How many lines were read, how many of them called, how many answers are not the stored ones, and how often each entry gave each reply, by
+-- the entry's place. Definitions only.
 use Rattle.std.specs.Prelude.{◌≡◌, ℕ, ◌+◌, ◌*◌, cond, ◌&&◌, ltb, MatchBool, List, replicate, slice_index, slice_set, Option, Some, None, Result, Ok, Err}
 use Rattle.refusal.specs.Numbers.{reply_number}
 use Rattle.replay_answers.specs.declared.error.NoCall.{NoCall}

@@ -101,7 +101,9 @@ fn reads_parameters_with_rooms_of_any_size(rt: HostRuntime) -> Result<(), Fail> 
     assert_eq!(rt; parameters.absorption, Some(1.0));
     assert_eq!(rt; parameters.state_count(), 2);
     assert_eq!(rt; parameters.made().map(|kernel| kernel.state_count()), Ok(2));
+    assert_eq!(rt; words.end(), Err(LineError::Malformed));
     assert_eq!(rt; words.word(), Ok(7));
+    assert_eq!(rt; words.end(), Ok(()));
     Ok(())
 }
 

@@ -44,7 +44,8 @@ impl<'a> Words<'a> {
 
     // Refuses words that are left.
     pub fn end(self) -> Result<(), LineError>
-        ensures { IsOk result ↔ self.entry.rest.now ≡ [] }
+        ensures end { IsOk result ↔ self.entry.rest.now ≡ [] }
+        ensures malformed { IfErr result (λ e. e ≡ Malformed) }
     {
         if self.rest.is_empty() {
             Ok(())
