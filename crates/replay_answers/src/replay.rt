@@ -55,8 +55,8 @@ where
     Ok(tally)
 }
 
-// Replays the lines of standard input, and prints what the calls came to. A read that fails counts as the end. No clause can say what
-// standard input gives or what standard output takes; `replay_lines` says what the lines come to.
+// Replays the lines of standard input, and prints what the calls came to. A read that fails counts as the end, also one that has no memory for
+// a line. No clause can say what standard input gives or what standard output takes; `replay_lines` says what the lines come to.
 pub fn replay_main<E, R, F>(rt: &R, entry: F) -> io::Result<()>
 where
     E: Ord + Display + Drop,
