@@ -40,7 +40,7 @@ placed_answered place (Some c) a =
     }
 
 module _ {E : Type 0} (place : E → ℕ) (gives : List ℕ → Result (Called E) NoCall → Type 0) where
-  -- what a line comes to where `gives text r` says that r is a possible result of the call at this text
+  -- what a line comes to where `gives text r` says that r is a possible result of the call at this text; `record {}` is the one `NoCall`
   abbrev pub PlacedCameTo : List ℕ → Option (Called E) → Type 0
   PlacedCameTo line (Some called) = gives line (Ok called)
   PlacedCameTo line None = gives line (Err (record {}))
